@@ -1,0 +1,9 @@
+pub mod Each
+pub mod Limits
+pub mod Refusal
+pub mod Table
+pub mod Calendar
+pub mod State
+pub mod Step
+pub mod Judge
+pub mod Conditions

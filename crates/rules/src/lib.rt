@@ -1,0 +1,82 @@
+// What document 01 speaks of: tables, states, steps and refusals as types, and in specs/ every definition over them, from the
+// limits to the judged step. Code here is only what belongs to a kind itself: the limits, the two record checks, the fresh state,
+// the waits, a step read from its bytes. It uses hearers; everything else in the repository stands on it.
+mod calendars;
+mod refusals;
+mod states;
+mod steps;
+mod tables;
+
+// A head table: N heads, slots of S ticks, propagation P, and a wake tick for each head; wake places above N are zero.
+pub struct Table {
+    pub n: u8,
+    pub s: u16,
+    pub p: u16,
+    pub wakes: [u32; 64],
+}
+
+// The one frame on the cable: who has still to hear it, its kind (1 coldstart frame, 2 i-frame), origin, sent and delivery tick.
+// With no hearer all of it is zero.
+pub struct Calendar {
+    pub hearers: u64,
+    pub kind: u8,
+    pub origin: u8,
+    pub sent: u32,
+    pub delivery: u32,
+}
+
+// An active head carries its slot; no other phase has one.
+pub enum Phase {
+    Init,
+    Listen,
+    Coldstart,
+    Active(u8),
+}
+
+pub struct Head {
+    pub phase: Phase,
+    pub timeout: u32,
+}
+
+// Sixty-four head places, of which the first n are used; the others are zero.
+pub struct State {
+    pub clock: u32,
+    pub n: u8,
+    pub calendar: Calendar,
+    pub heads: [Head; 64],
+}
+
+// A proposed step.
+pub enum Step {
+    Advance,
+    Timer(u8),
+    Hear(u8),
+}
+
+// Why something is refused: one case for each number of document 01.
+pub enum Refusal {
+    TableLength,
+    TableMark,
+    TableRange,
+    StateLength,
+    StateMark,
+    StateRule,
+    NoSuchStep,
+    SomethingDue,
+    TimerNotDue,
+    NotHearing,
+    PastCeiling,
+    ShortRoom,
+    OwnFrame,
+}
+
+pub enum Verdict {
+    Accepted,
+    Refused(Refusal),
+}
+
+// A verdict beside a state: the next state where it accepts.
+pub struct Judged {
+    pub verdict: Verdict,
+    pub state: State,
+}
