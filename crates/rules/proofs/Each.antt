@@ -38,6 +38,13 @@ either? false = inr refl
 pub not-both : (b : Bool) {A : Type 0} → b ≡ true → b ≡ false → A
 not-both b p q = no-both (sym p ∙ q)
 
+-- a test that cannot hold is false, and two tests that hold together are equal
+pub no : {b : Bool} → (b ≡ true → ⊥) → false ≡ b
+no {b} f = elim (either? b) [ inl e ↦ absurd (f e) | inr e ↦ sym e ]
+
+pub same-test : {a b : Bool} → (a ≡ true → b ≡ true) → (b ≡ true → a ≡ true) → a ≡ b
+same-test {a} {b} f g = elim (either? a) [ inl e ↦ e ∙ sym (f e) | inr e ↦ e ∙ no (λ q. not-both a (g q) e) ]
+
 pub or-false : (a b : Bool) → (a || b) ≡ false → (a ≡ false) × (b ≡ false)
 or-false true b e = no-both e
 or-false false b e = (refl, e)
@@ -64,6 +71,9 @@ every-of (suc n) f g = both (every-of n f (λ i a b. g i a (omega arith))) (g (s
 pub every-more : (k : ℕ) (f : ℕ → Bool) → every k f ≡ true → f (suc k) ≡ true → every (k + 1) f ≡ true
 unfolding every
 every-more k f e g = rw (add-one, e, g)
+
+pub every-done : (n k : ℕ) (f : ℕ → Bool) → every k f ≡ true → k ≤ n → n ≤ k → true ≡ every n f
+every-done n k f e a b = let q : k ≡ n = omega arith in sym (rw q at e)
 
 pub every-fails : (n : ℕ) (f : ℕ → Bool) (i : ℕ) → 1 ≤ i → i ≤ n → f i ≡ false → every n f ≡ false
 every-fails n f i a b e = elim (either? (every n f)) [ inl x ↦ not-both (f i) (every-at n f x i a b) e | inr x ↦ x ]

@@ -1,2 +1,7 @@
 pub mod Each
+pub mod Order
 pub mod Meaning
+pub mod Waits
+pub mod Checks
+pub mod Moves
+pub mod Known

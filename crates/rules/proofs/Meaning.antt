@@ -8,7 +8,8 @@ use native.Mathlib.Omega.{arith}
 use lib.Dec.{eqb, leb, ltb}
 use lib.ListN.{length, getD, List·getD-eq-default}
 use borrow.Author.Tests.{eqb-true, eqb-false, ltb-true, leb-true, eq-eqb, ne-eqb, lt-ltb, le-leb, lt-leb, not-true}
-use Rattle.hearers.specs.Set.{has}
+use lib.Pow.{le-ones, lt-of-le-ones}
+use Rattle.hearers.specs.Set.{has, everyone}
 use Rattle.hearers.proofs.Laws.{has-low, has-head, has-above, none-above, has-none}
 use Rattle.rules.specs.declared.Phase.{Phase}
 use Rattle.rules.specs.declared.Phase.the-variants.{Init, Listen, Coldstart, Active}
@@ -34,53 +35,79 @@ pub is-head : (t : Table) (i : ℕ) → IsHead t i → isHead t i ≡ true
 unfolding isHead
 is-head t i h = is-between 1 (t .n) i (h .low) (h .high)
 
+pub record NumbersMeet (n s p : ℕ) : Type 0 where
+  pub some-head : 1 ≤ n
+  pub heads : n ≤ maxHeads
+  pub slot-low : shortestSlot ≤ s
+  pub slot-high : s ≤ longestSlot
+  pub propagation : 1 ≤ p
+  pub short : 2 * p < s
+
+pub numbers-meet : (n s p : ℕ) → numbersFit n s p ≡ true → NumbersMeet n s p
+unfolding numbersFit
+numbers-meet n s p e =
+    let a = and-true (between 1 maxHeads n) _ e in
+    let b = and-true (between shortestSlot longestSlot s) _ (a .1) in
+    let c = and-true (leb 1 p) _ (b .1) in
+    let h = between-is 1 maxHeads n (a .0) in
+    let w = between-is shortestSlot longestSlot s (b .0) in
+    record { some-head = h .0; heads = h .1; slot-low = w .0; slot-high = w .1; propagation = leb-true 1 p (c .0); short = ltb-true (2 * p) s (c .1) }
+
+pub meet-numbers : (n s p : ℕ) → NumbersMeet n s p → numbersFit n s p ≡ true
+unfolding numbersFit
+meet-numbers n s p m =
+    both (is-between 1 maxHeads n (m .some-head) (m .heads))
+    (both (is-between shortestSlot longestSlot s (m .slot-low) (m .slot-high)) (both (le-leb 1 p (m .propagation)) (lt-ltb (2 * p) s (m .short))))
+
+pub wake-used : (n i w : ℕ) → i ≤ n → wakeFits n i w ≡ between 1 latestWake w
+unfolding wakeFits
+wake-used n i w h = rw (le-leb i n h)
+
+pub wake-spare : (n i w : ℕ) → n < i → wakeFits n i w ≡ eqb w 0
+unfolding wakeFits
+wake-spare n i w h = rw (lt-leb i n h)
+
 wake-beyond : (t : Table) (i : ℕ) → length (t .wakes) ≡ maxHeads → maxHeads < i → wakeOf t i ≡ 0
 unfolding wakeOf
 wake-beyond t zero l h = refl
 wake-beyond t (suc k) l h = List·getD-eq-default (t .wakes) 0 (omega arith)
 
 pub table-meets : (t : Table) → tableFits t ≡ true → TableMeets t
-unfolding tableFits numbersFit wakeFits
+unfolding tableFits
 table-meets t e =
     let r = and-true (eqb (length (t .wakes)) maxHeads) _ e in
     let q = and-true (numbersFit (t .n) (t .s) (t .p)) _ (r .1) in
-    let a = and-true (between 1 maxHeads (t .n)) _ (q .0) in
-    let n = between-is 1 maxHeads (t .n) (a .0) in
-    let b = and-true (between shortestSlot longestSlot (t .s)) _ (a .1) in
-    let s = between-is shortestSlot longestSlot (t .s) (b .0) in
-    let p = and-true (leb 1 (t .p)) _ (b .1) in
+    let m = numbers-meet (t .n) (t .s) (t .p) (q .0) in
     let wake : (i : ℕ) → 1 ≤ i → i ≤ maxHeads → wakeFits (t .n) i (wakeOf t i) ≡ true = every-at maxHeads (λ i. wakeFits (t .n) i (wakeOf t i)) (q .1) in
     let used : (i : ℕ) → IsHead t i → (1 ≤ wakeOf t i) × (wakeOf t i ≤ latestWake) =
-        λ i h. between-is 1 latestWake (wakeOf t i) (rw (le-leb i (t .n) (h .high)) at (wake i (h .low) (let l = n .1 in omega arith))) in
+    λ i h. between-is 1 latestWake (wakeOf t i) (sym (wake-used (t .n) i (wakeOf t i) (h .high)) ∙ wake i (h .low) (let l = h .high in omega arith)) in
     record {
       places = eqb-true (length (t .wakes)) maxHeads (r .0);
-      some-head = n .0;
-      heads = n .1;
-      slot-low = s .0;
-      slot-high = s .1;
-      propagation = leb-true 1 (t .p) (p .0);
-      short = ltb-true (2 * t .p) (t .s) (p .1);
+      some-head = m .some-head;
+      heads = m .heads;
+      slot-low = m .slot-low;
+      slot-high = m .slot-high;
+      propagation = m .propagation;
+      short = m .short;
       wake-low = λ i h. used i h .0;
       wake-high = λ i h. used i h .1;
       spare = λ i h. elim (less? maxHeads i) [
         | inl x ↦ wake-beyond t i (eqb-true (length (t .wakes)) maxHeads (r .0)) x
-        | inr x ↦ eqb-true (wakeOf t i) 0 (rw (lt-leb i (t .n) h) at (wake i (omega arith) x))
+        | inr x ↦ eqb-true (wakeOf t i) 0 (sym (wake-spare (t .n) i (wakeOf t i) h) ∙ wake i (omega arith) x)
       ];
     }
 
 meets-wake : (t : Table) → TableMeets t → (i : ℕ) → 1 ≤ i → wakeFits (t .n) i (wakeOf t i) ≡ true
-unfolding wakeFits
 meets-wake t m i a = elim (less? (t .n) i) [
-  | inl h ↦ rw (lt-leb i (t .n) h) (eq-eqb _ _ (m .spare i h))
-  | inr h ↦ let k : IsHead t i = record { low = a; high = h } in rw (le-leb i (t .n) h) (is-between 1 latestWake (wakeOf t i) (m .wake-low i k) (m .wake-high i k))
+  | inl h ↦ wake-spare (t .n) i (wakeOf t i) h ∙ eq-eqb _ _ (m .spare i h)
+  | inr h ↦ let k : IsHead t i = record { low = a; high = h } in wake-used (t .n) i (wakeOf t i) h ∙ is-between 1 latestWake (wakeOf t i) (m .wake-low i k) (m .wake-high i k)
 ]
 
 pub meets-table : (t : Table) → TableMeets t → tableFits t ≡ true
-unfolding tableFits numbersFit
+unfolding tableFits
 meets-table t m =
     both (eq-eqb _ _ (m .places))
-    (both (both (is-between 1 maxHeads (t .n) (m .some-head) (m .heads))
-    (both (is-between shortestSlot longestSlot (t .s) (m .slot-low) (m .slot-high)) (both (le-leb 1 (t .p) (m .propagation)) (lt-ltb (2 * t .p) (t .s) (m .short)))))
+    (both (meet-numbers (t .n) (t .s) (t .p) record { some-head = m .some-head; heads = m .heads; slot-low = m .slot-low; slot-high = m .slot-high; propagation = m .propagation; short = m .short })
     (every-of maxHeads (λ i. wakeFits (t .n) i (wakeOf t i)) (λ i a b. meets-wake t m i a)))
 
 -- ---- a calendar
@@ -123,65 +150,102 @@ pub record CalendarMeets (t : Table) (clock : ℕ) (c : Calendar) : Type 0 where
   pub few : (i : ℕ) → Hears c i → IsHead t i
   pub frame : (c .hearers ≡ 0 → ⊥) → FrameMeets t clock c
 
-kind-is : (k : ℕ) → between coldstartFrame iFrame k ≡ true → (k ≡ coldstartFrame) ⊎ (k ≡ iFrame)
-kind-is k e = let r = between-is coldstartFrame iFrame k e in let a = r .0 in let b = r .1 in elim (same? k coldstartFrame) [ inl x ↦ inl x | inr x ↦ inr (omega arith) ]
-
-is-kind : (k : ℕ) → (k ≡ coldstartFrame) ⊎ (k ≡ iFrame) → between coldstartFrame iFrame k ≡ true
-is-kind k (inl e) = is-between coldstartFrame iFrame k (omega arith) (omega arith)
-is-kind k (inr e) = is-between coldstartFrame iFrame k (omega arith) (omega arith)
-
 hears-few : (t : Table) (c : Calendar) → c .hearers < 2 ^ t .n → (i : ℕ) → Hears c i → IsHead t i
 hears-few t c l i e = elim (less? (t .n) i) [
   | inl h ↦ let z = has-above (c .hearers) (t .n) i l h in absurd (omega arith)
   | inr h ↦ record { low = has-head (c .hearers) i e; high = h }
 ]
 
-zero-calendar : (c : Calendar) → c .hearers ≡ 0 → allZero c ≡ true → c ≡ emptyCalendar
+pub record ZeroFields (c : Calendar) : Type 0 where
+  pub kind : c .kind ≡ 0
+  pub origin : c .origin ≡ 0
+  pub sent : c .sent ≡ 0
+  pub delivery : c .delivery ≡ 0
+
+pub zero-fields : (c : Calendar) → allZero c ≡ true → ZeroFields c
 unfolding allZero
-zero-calendar c h e =
+zero-fields c e =
     let k = and-true (eqb (c .kind) 0) _ e in
     let o = and-true (eqb (c .origin) 0) _ (k .1) in
     let s = and-true (eqb (c .sent) 0) (eqb (c .delivery) 0) (o .1) in
-    λ i. record {
-      hearers = h i;
-      kind = eqb-true (c .kind) 0 (k .0) i;
-      origin = eqb-true (c .origin) 0 (o .0) i;
-      sent = eqb-true (c .sent) 0 (s .0) i;
-      delivery = eqb-true (c .delivery) 0 (s .1) i;
-    }
+    record { kind = eqb-true _ _ (k .0); origin = eqb-true _ _ (o .0); sent = eqb-true _ _ (s .0); delivery = eqb-true _ _ (s .1) }
 
-nobody-hears : (c : Calendar) (i : ℕ) → c .hearers ≡ 0 → Hears c i → ⊥
+pub fields-zero : (c : Calendar) → ZeroFields c → allZero c ≡ true
+unfolding allZero
+fields-zero c z = both (eq-eqb _ _ (z .kind)) (both (eq-eqb _ _ (z .origin)) (both (eq-eqb _ _ (z .sent)) (eq-eqb _ _ (z .delivery))))
+
+zero-calendar : (c : Calendar) → c .hearers ≡ 0 → allZero c ≡ true → c ≡ emptyCalendar
+zero-calendar c h e = let z = zero-fields c e in λ i. record { hearers = h i; kind = z .kind i; origin = z .origin i; sent = z .sent i; delivery = z .delivery i }
+
+pub nobody-hears : (c : Calendar) (i : ℕ) → c .hearers ≡ 0 → Hears c i → ⊥
 nobody-hears c i h e = let z = sym e ∙ ap (λ (x : ℕ). has x i) h ∙ has-none i in omega arith
 
-frame-meets : (t : Table) (clock : ℕ) (c : Calendar) → frameFits t clock c ≡ true → ((i : ℕ) → Hears c i → IsHead t i) × FrameMeets t clock c
+-- the same rules of a frame as plain comparisons, as the code tests them
+pub record FrameNumbers (t : Table) (clock : ℕ) (c : Calendar) : Type 0 where
+  pub hearers : c .hearers ≤ everyone (t .n)
+  pub kind-low : coldstartFrame ≤ c .kind
+  pub kind-high : c .kind ≤ iFrame
+  pub origin-low : 1 ≤ c .origin
+  pub origin-high : c .origin ≤ t .n
+  pub deaf : has (c .hearers) (c .origin) ≡ 1 → ⊥
+  pub flight : c .delivery ≡ c .sent + t .p
+  pub sent : c .sent ≤ clock
+  pub ahead : clock ≤ c .delivery
+
+pub frame-numbers : (t : Table) (clock : ℕ) (c : Calendar) → frameFits t clock c ≡ true → FrameNumbers t clock c
 unfolding frameFits
-frame-meets t clock c e =
-    let h = and-true (ltb (c .hearers) (2 ^ t .n)) _ e in
+frame-numbers t clock c e =
+    let h = and-true (leb (c .hearers) (everyone (t .n))) _ e in
     let k = and-true (between coldstartFrame iFrame (c .kind)) _ (h .1) in
     let o = and-true (isHead t (c .origin)) _ (k .1) in
     let d = and-true (not (hears c (c .origin))) _ (o .1) in
     let f = and-true (eqb (c .delivery) (c .sent + t .p)) _ (d .1) in
     let s = and-true (leb (c .sent) clock) (leb clock (c .delivery)) (f .1) in
-    (
-      hears-few t c (ltb-true (c .hearers) (2 ^ t .n) (h .0)),
-      record {
-        kind = kind-is (c .kind) (k .0);
-        origin = head-is t (c .origin) (o .0);
-        deaf = hears-not c (c .origin) (not-true (hears c (c .origin)) (d .0));
-        flight = eqb-true (c .delivery) (c .sent + t .p) (f .0);
-        sent = leb-true (c .sent) clock (s .0);
-        ahead = leb-true clock (c .delivery) (s .1);
-      },
-    )
+    let kind = between-is coldstartFrame iFrame (c .kind) (k .0) in
+    let origin = head-is t (c .origin) (o .0) in
+    record {
+      hearers = leb-true (c .hearers) (everyone (t .n)) (h .0);
+      kind-low = kind .0;
+      kind-high = kind .1;
+      origin-low = origin .low;
+      origin-high = origin .high;
+      deaf = hears-not c (c .origin) (not-true (hears c (c .origin)) (d .0));
+      flight = eqb-true (c .delivery) (c .sent + t .p) (f .0);
+      sent = leb-true (c .sent) clock (s .0);
+      ahead = leb-true clock (c .delivery) (s .1);
+    }
 
-meets-frame : (t : Table) (clock : ℕ) (c : Calendar) → ((i : ℕ) → Hears c i → IsHead t i) → FrameMeets t clock c → frameFits t clock c ≡ true
+pub numbers-frame : (t : Table) (clock : ℕ) (c : Calendar) → FrameNumbers t clock c → frameFits t clock c ≡ true
 unfolding frameFits
-meets-frame t clock c g f =
-    both (lt-ltb _ _ (none-above (t .n) (c .hearers) (λ i h. g i h .high)))
-    (both (is-kind (c .kind) (f .kind))
-    (both (is-head t (c .origin) (f .origin))
+numbers-frame t clock c f =
+    both (le-leb _ _ (f .hearers))
+    (both (is-between coldstartFrame iFrame (c .kind) (f .kind-low) (f .kind-high))
+    (both (is-head t (c .origin) record { low = f .origin-low; high = f .origin-high })
     (both (ap not (not-hears c (c .origin) (f .deaf)))
     (both (eq-eqb _ _ (f .flight)) (both (le-leb _ _ (f .sent)) (le-leb _ _ (f .ahead)))))))
+
+frame-meets : (t : Table) (clock : ℕ) (c : Calendar) → FrameNumbers t clock c → FrameMeets t clock c
+frame-meets t clock c f = record {
+  kind = elim (same? (c .kind) coldstartFrame) [ inl e ↦ inl e | inr e ↦ inr (let l = f .kind-low in let h = f .kind-high in omega arith) ];
+  origin = record { low = f .origin-low; high = f .origin-high };
+  deaf = f .deaf;
+  flight = f .flight;
+  sent = f .sent;
+  ahead = f .ahead;
+}
+
+meets-frame : (t : Table) (clock : ℕ) (c : Calendar) → ((i : ℕ) → Hears c i → IsHead t i) → FrameMeets t clock c → FrameNumbers t clock c
+meets-frame t clock c g f = record {
+  hearers = le-ones (t .n) (none-above (t .n) (c .hearers) (λ i h. g i h .high));
+  kind-low = elim (f .kind) [ inl e ↦ omega arith | inr e ↦ omega arith ];
+  kind-high = elim (f .kind) [ inl e ↦ omega arith | inr e ↦ omega arith ];
+  origin-low = f .origin .low;
+  origin-high = f .origin .high;
+  deaf = f .deaf;
+  flight = f .flight;
+  sent = f .sent;
+  ahead = f .ahead;
+}
 
 pub calendar-meets : (t : Table) (clock : ℕ) (c : Calendar) → calendarFits t clock c ≡ true → CalendarMeets t clock c
 unfolding calendarFits
@@ -189,7 +253,17 @@ calendar-meets t clock c e = go (quiet c) refl e
   where
     go : (b : Bool) → quiet c ≡ b → cond b (allZero c) (frameFits t clock c) ≡ true → CalendarMeets t clock c
     go true q f = record { empty = λ h. zero-calendar c h f; few = λ i h. absurd (nobody-hears c i (quiet-is c q) h); frame = λ n. absurd (n (quiet-is c q)) }
-    go false q f = let r = frame-meets t clock c f in record { empty = λ h. absurd (quiet-not c q h); few = r .0; frame = λ n. r .1 }
+    go false q f =
+        let r = frame-numbers t clock c f in
+        record { empty = λ h. absurd (quiet-not c q h); few = hears-few t c (lt-of-le-ones (t .n) (r .hearers)); frame = λ n. frame-meets t clock c r }
+
+pub calendar-quiet : (t : Table) (clock : ℕ) (c : Calendar) → c .hearers ≡ 0 → calendarFits t clock c ≡ allZero c
+unfolding calendarFits
+calendar-quiet t clock c h = rw (is-quiet c h)
+
+pub calendar-busy : (t : Table) (clock : ℕ) (c : Calendar) → (c .hearers ≡ 0 → ⊥) → calendarFits t clock c ≡ frameFits t clock c
+unfolding calendarFits
+calendar-busy t clock c h = rw (not-quiet c h)
 
 pub meets-calendar : (t : Table) (clock : ℕ) (c : Calendar) → CalendarMeets t clock c → calendarFits t clock c ≡ true
 unfolding calendarFits allZero
@@ -197,7 +271,7 @@ meets-calendar t clock c m = go (quiet c) refl
   where
     go : (b : Bool) → quiet c ≡ b → cond b (allZero c) (frameFits t clock c) ≡ true
     go true q = ap allZero (m .empty (quiet-is c q))
-    go false q = meets-frame t clock c (m .few) (m .frame (quiet-not c q))
+    go false q = numbers-frame t clock c (meets-frame t clock c (m .few) (m .frame (quiet-not c q)))
 
 -- ---- a head
 
@@ -227,6 +301,14 @@ zero-head h e =
     init Coldstart q = absurd (omega arith)
     init (Active k) q = absurd (omega arith)
 
+pub place-used : (t : Table) (clock i : ℕ) (h : Head) → i ≤ t .n → placeFits t clock i h ≡ headFits t clock i h
+unfolding placeFits
+place-used t clock i h l = rw (le-leb i (t .n) l)
+
+pub place-spare : (t : Table) (clock i : ℕ) (h : Head) → t .n < i → placeFits t clock i h ≡ isZero h
+unfolding placeFits
+place-spare t clock i h l = rw (lt-leb i (t .n) l)
+
 head-beyond : (hs : List Head) (i : ℕ) → length hs ≡ maxHeads → maxHeads < i → headOf hs i ≡ noHead
 unfolding headOf
 head-beyond hs zero l h = refl
@@ -235,7 +317,7 @@ head-beyond hs (suc k) l h = List·getD-eq-default hs noHead (omega arith)
 -- ---- a state
 
 pub state-meets : (t : Table) (s : State) → t .n ≤ maxHeads → stateFits t s ≡ true → StateMeets t s
-unfolding stateFits frontFits placeFits headFits
+unfolding stateFits frontFits headFits
 state-meets t s n e =
     let l = and-true (eqb (length (s .heads)) maxHeads) _ e in
     let p : length (s .heads) ≡ maxHeads = eqb-true _ _ (l .0) in
@@ -244,7 +326,8 @@ state-meets t s n e =
     let g = and-true (eqb (s .n) (t .n)) _ (f .1) in
     let c = calendar-meets t (s .clock) (s .calendar) (g .1) in
     let place : (i : ℕ) → 1 ≤ i → i ≤ maxHeads → placeFits t (s .clock) i (headOf (s .heads) i) ≡ true = every-at maxHeads (λ i. placeFits t (s .clock) i (headOf (s .heads) i)) (a .1) in
-    let used : (i : ℕ) → IsHead t i → headFits t (s .clock) i (headOf (s .heads) i) ≡ true = λ i h. rw (le-leb i (t .n) (h .high)) at (place i (h .low) (let k = h .high in omega arith)) in
+    let used : (i : ℕ) → IsHead t i → headFits t (s .clock) i (headOf (s .heads) i) ≡ true =
+    λ i h. sym (place-used t (s .clock) i (headOf (s .heads) i) (h .high)) ∙ place i (h .low) (let k = h .high in omega arith) in
     record {
       places = p;
       clock = leb-true _ _ (f .0);
@@ -256,15 +339,15 @@ state-meets t s n e =
       phases = λ i h. phase-meets t (s .clock) i (timeoutOf s i) _ (and-true (leb (s .clock) (timeoutOf s i)) _ (used i h) .1);
       spare = λ i h. elim (less? maxHeads i) [
         | inl x ↦ head-beyond (s .heads) i p x
-        | inr x ↦ zero-head (headOf (s .heads) i) (rw (lt-leb i (t .n) h) at (place i (omega arith) x))
+        | inr x ↦ zero-head (headOf (s .heads) i) (sym (place-spare t (s .clock) i (headOf (s .heads) i) h) ∙ place i (omega arith) x)
       ];
     }
 
 meets-place : (t : Table) (s : State) → StateMeets t s → (i : ℕ) → 1 ≤ i → placeFits t (s .clock) i (headOf (s .heads) i) ≡ true
-unfolding placeFits headFits isZero
+unfolding headFits isZero
 meets-place t s m i a = elim (less? (t .n) i) [
-  | inl h ↦ rw (lt-leb i (t .n) h) (ap isZero (m .spare i h))
-  | inr h ↦ let k : IsHead t i = record { low = a; high = h } in rw (le-leb i (t .n) h) (both (le-leb _ _ (m .ahead i k)) (meets-phase t (s .clock) i (timeoutOf s i) _ (m .phases i k)))
+  | inl h ↦ place-spare t (s .clock) i (headOf (s .heads) i) h ∙ ap isZero (m .spare i h)
+  | inr h ↦ let k : IsHead t i = record { low = a; high = h } in place-used t (s .clock) i (headOf (s .heads) i) h ∙ both (le-leb _ _ (m .ahead i k)) (meets-phase t (s .clock) i (timeoutOf s i) _ (m .phases i k))
 ]
 
 pub meets-state : (t : Table) (s : State) → StateMeets t s → stateFits t s ≡ true

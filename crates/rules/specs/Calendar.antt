@@ -1,9 +1,9 @@
 -- Document 01, "The state": "The calendar holds at most one frame", and what a send and a hearing do to it.
 use mathlib.Core.Bool.{Bool, cond, not, _&&_}
-use Prim.Native.Nat.{ℕ, _+_, _^_}
+use Prim.Native.Nat.{ℕ, _+_}
 use lib.Count.{ones}
-use lib.Dec.{eqb, leb, ltb}
-use Rattle.hearers.specs.Set.{has, without, allBut}
+use lib.Dec.{eqb, leb}
+use Rattle.hearers.specs.Set.{has, without, everyone, allBut}
 use Rattle.rules.specs.declared.Table.{Table}
 use Rattle.rules.specs.declared.Calendar.{Calendar}
 use Rattle.rules.specs.Each.{between}
@@ -58,7 +58,7 @@ allZero c = eqb (c .kind) 0 && (eqb (c .origin) 0 && (eqb (c .sent) 0 && eqb (c 
 -- state rules: "no hearer above N; if hearers wait: kind 1 or 2, origin 1 to N and not a hearer, delivery = sent + P, sent <= clock <= delivery"
 unfoldable pub frameFits : Table → ℕ → Calendar → Bool
 frameFits t clock c =
-    ltb (c .hearers) (2 ^ t .n) && (between coldstartFrame iFrame (c .kind) && (isHead t (c .origin) && (not (hears c (c .origin)) &&
+    leb (c .hearers) (everyone (t .n)) && (between coldstartFrame iFrame (c .kind) && (isHead t (c .origin) && (not (hears c (c .origin)) &&
     (eqb (c .delivery) (c .sent + t .p) && (leb (c .sent) clock && leb clock (c .delivery))))))
 
 unfoldable pub calendarFits : Table → ℕ → Calendar → Bool
