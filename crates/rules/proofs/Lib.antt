@@ -5,3 +5,4 @@ pub mod Waits
 pub mod Checks
 pub mod Moves
 pub mod Known
+pub mod Unique

@@ -177,8 +177,9 @@ fields-zero c z = both (eq-eqb _ _ (z .kind)) (both (eq-eqb _ _ (z .origin)) (bo
 zero-calendar : (c : Calendar) → c .hearers ≡ 0 → allZero c ≡ true → c ≡ emptyCalendar
 zero-calendar c h e = let z = zero-fields c e in λ i. record { hearers = h i; kind = z .kind i; origin = z .origin i; sent = z .sent i; delivery = z .delivery i }
 
-pub nobody-hears : (c : Calendar) (i : ℕ) → c .hearers ≡ 0 → Hears c i → ⊥
-nobody-hears c i h e = let z = sym e ∙ ap (λ (x : ℕ). has x i) h ∙ has-none i in omega arith
+-- where there is a hearer, somebody waits
+pub hearer-waits : (c : Calendar) (i : ℕ) → Hears c i → c .hearers ≡ 0 → ⊥
+hearer-waits c i h e = let z = sym h ∙ ap (λ (x : ℕ). has x i) e ∙ has-none i in omega arith
 
 -- the same rules of a frame as plain comparisons, as the code tests them
 pub record FrameNumbers (t : Table) (clock : ℕ) (c : Calendar) : Type 0 where
@@ -252,7 +253,7 @@ unfolding calendarFits
 calendar-meets t clock c e = go (quiet c) refl e
   where
     go : (b : Bool) → quiet c ≡ b → cond b (allZero c) (frameFits t clock c) ≡ true → CalendarMeets t clock c
-    go true q f = record { empty = λ h. zero-calendar c h f; few = λ i h. absurd (nobody-hears c i (quiet-is c q) h); frame = λ n. absurd (n (quiet-is c q)) }
+    go true q f = record { empty = λ h. zero-calendar c h f; few = λ i h. absurd (hearer-waits c i h (quiet-is c q)); frame = λ n. absurd (n (quiet-is c q)) }
     go false q f =
         let r = frame-numbers t clock c f in
         record { empty = λ h. absurd (quiet-not c q h); few = hears-few t c (lt-of-le-ones (t .n) (r .hearers)); frame = λ n. frame-meets t clock c r }

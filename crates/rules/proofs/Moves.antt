@@ -25,7 +25,7 @@ use Rattle.rules.specs.State.{noHead, headIn, headOf, put, timeoutOf, fr
 use Rattle.rules.specs.Step.{timerDue, due, leastTimeout, nextInstant, sends}
 use Rattle.rules.specs.Conditions.{IsHead, TableMeets, Hears, FrameMeets, StateMeets, Due, a-timer, a-delivery, Instant, at-timeout, at-delivery, Least}
 use Rattle.rules.proofs.Each.{same?, less?, and-true, both, either?, not-both, or-false, some-at, some-is}
-use Rattle.rules.proofs.Meaning.{quiet-is, quiet-not, is-quiet, not-quiet, nobody-hears, CalendarMeets}
+use Rattle.rules.proofs.Meaning.{quiet-is, quiet-not, is-quiet, not-quiet, hearer-waits, CalendarMeets}
 
 -- ---- head places
 
@@ -54,7 +54,7 @@ fresh-head t (suc k) = List·getD-map (headIn Init) (t .wakes) k 0
 
 -- ---- calendars
 
--- and where somebody waits, there is a hearer
+-- where somebody waits, there is a hearer
 pub somebody-hears : (c : Calendar) → (c .hearers ≡ 0 → ⊥) → (i : ℕ) × Hears c i
 somebody-hears c n = has-some (c .hearers) n
 
@@ -76,13 +76,15 @@ abbrev pub heardBy : Calendar → ℕ → Calendar
 heardBy c h = record { hearers = h; kind = c .kind; origin = c .origin; sent = c .sent; delivery = c .delivery }
 
 -- head i leaves: it hears no more, the others wait as before, and while somebody waits the frame stays
-pub left-same : (c : Calendar) (i : ℕ) → has (left c i .hearers) i ≡ 0
+pub left-hearers : (c : Calendar) (i : ℕ) → left c i .hearers ≡ without (c .hearers) i
 unfolding left
-left-same c i = ap (λ (x : ℕ). has x i) (settled-hearers (heardBy c (without (c .hearers) i))) ∙ without-same (c .hearers) i
+left-hearers c i = settled-hearers (heardBy c (without (c .hearers) i))
+
+pub left-same : (c : Calendar) (i : ℕ) → has (left c i .hearers) i ≡ 0
+left-same c i = ap (λ (x : ℕ). has x i) (left-hearers c i) ∙ without-same (c .hearers) i
 
 pub left-other : (c : Calendar) (i j : ℕ) → (j ≡ i → ⊥) → has (left c i .hearers) j ≡ has (c .hearers) j
-unfolding left
-left-other c i j n = ap (λ (x : ℕ). has x j) (settled-hearers (heardBy c (without (c .hearers) i))) ∙ without-other (c .hearers) i j n
+left-other c i j n = ap (λ (x : ℕ). has x j) (left-hearers c i) ∙ without-other (c .hearers) i j n
 
 pub left-empty : (c : Calendar) (i : ℕ) → left c i .hearers ≡ 0 → left c i ≡ emptyCalendar
 unfolding left
@@ -97,31 +99,57 @@ abbrev pub sentBy : Table → ℕ → ℕ → ℕ → Calendar
 sentBy t clock k i = record { hearers = allBut (t .n) i; kind = k; origin = i; sent = clock; delivery = clock + t .p }
 
 -- a frame is taken: its sender does not hear it, all other heads do, and nobody else
+pub taken-hearers : (t : Table) (clock k i : ℕ) → taken t clock k i .hearers ≡ allBut (t .n) i
+unfolding taken
+taken-hearers t clock k i = settled-hearers (sentBy t clock k i)
+
 pub taken-same : (t : Table) (clock k i : ℕ) → has (taken t clock k i .hearers) i ≡ 0
-unfolding taken allBut
-taken-same t clock k i = ap (λ (x : ℕ). has x i) (settled-hearers (sentBy t clock k i)) ∙ without-same (everyone (t .n)) i
+unfolding allBut
+taken-same t clock k i = ap (λ (x : ℕ). has x i) (taken-hearers t clock k i) ∙ without-same (everyone (t .n)) i
 
 pub taken-other : (t : Table) (clock k i j : ℕ) → IsHead t j → (j ≡ i → ⊥) → has (taken t clock k i .hearers) j ≡ 1
-unfolding taken allBut
-taken-other t clock k i j h n = ap (λ (x : ℕ). has x j) (settled-hearers (sentBy t clock k i)) ∙ without-other (everyone (t .n)) i j n ∙ everyone-in (t .n) j (h .low) (h .high)
+unfolding allBut
+taken-other t clock k i j h n = ap (λ (x : ℕ). has x j) (taken-hearers t clock k i) ∙ without-other (everyone (t .n)) i j n ∙ everyone-in (t .n) j (h .low) (h .high)
 
+-- who waits after head i is taken out has waited before
+without-hears : (h i j : ℕ) → has (without h i) j ≡ 1 → has h j ≡ 1
+without-hears h i j e = elim (same? j i) [
+  | inl x ↦ let z = without-same h i in let y = ap (λ (k : ℕ). has (without h i) k) x in absurd (omega arith)
+  | inr x ↦ sym (without-other h i j x) ∙ e
+]
+
+-- who is among all heads but i is a head
 all-but-few : (t : Table) (i j : ℕ) → has (allBut (t .n) i) j ≡ 1 → IsHead t j
 unfolding allBut
-all-but-few t i j e = elim (same? j i) [
-  | inl x ↦ let z = without-same (everyone (t .n)) i in let y = ap (λ (k : ℕ). has (without (everyone (t .n)) i) k) x in absurd (omega arith)
-  | inr x ↦ elim (less? (t .n) j) [
-    | inl l ↦ let z = has-above (everyone (t .n)) (t .n) j (let q = pow-pos (t .n) in omega arith) l in let y = without-other (everyone (t .n)) i j x in absurd (omega arith)
-    | inr l ↦ record { low = has-head _ j e; high = l }
-  ]
+all-but-few t i j e = let y = without-hears (everyone (t .n)) i j e in elim (less? (t .n) j) [
+  | inl l ↦ let z = has-above (everyone (t .n)) (t .n) j (let q = pow-pos (t .n) in omega arith) l in absurd (omega arith)
+  | inr l ↦ record { low = has-head _ j e; high = l }
 ]
 
 pub taken-few : (t : Table) (clock k i j : ℕ) → Hears (taken t clock k i) j → IsHead t j
+taken-few t clock k i j e = all-but-few t i j (ap (λ (x : ℕ). has x j) (sym (taken-hearers t clock k i)) ∙ e)
+
+pub taken-empty : (t : Table) (clock k i : ℕ) → taken t clock k i .hearers ≡ 0 → taken t clock k i ≡ emptyCalendar
 unfolding taken
-taken-few t clock k i j e = all-but-few t i j (ap (λ (x : ℕ). has x j) (sym (settled-hearers (sentBy t clock k i))) ∙ e)
+taken-empty t clock k i e = settled-empty (sentBy t clock k i) e
 
 pub taken-frame : (t : Table) (clock k i : ℕ) → (taken t clock k i .hearers ≡ 0 → ⊥) → taken t clock k i ≡ sentBy t clock k i
 unfolding taken
 taken-frame t clock k i n = settled-frame (sentBy t clock k i) n
+
+-- "with N = 1 the calendar stays empty", and otherwise somebody waits
+pub taken-lone : (t : Table) (clock k i : ℕ) → t .n ≡ 1 → IsHead t i → taken t clock k i ≡ emptyCalendar
+taken-lone t clock k i e h = elim (same? (taken t clock k i .hearers) 0) [
+  | inl z ↦ taken-empty t clock k i z
+  | inr z ↦ let r = somebody-hears (taken t clock k i) z in let q = taken-few t clock k i (r .0) (r .1) in let j : r .0 ≡ i = omega arith in
+      absurd (let x = taken-same t clock k i in let y : has (taken t clock k i .hearers) i ≡ 1 = rw j at (r .1) in omega arith)
+]
+
+pub taken-waits : (t : Table) (clock k i : ℕ) → 2 ≤ t .n → taken t clock k i .hearers ≡ 0 → ⊥
+taken-waits t clock k i l z = elim (same? i 1) [
+  | inl e ↦ hearer-waits (taken t clock k i) 2 (taken-other t clock k i 2 record { low = omega arith; high = l } (omega arith)) z
+  | inr n ↦ hearer-waits (taken t clock k i) 1 (taken-other t clock k i 1 record { low = omega arith; high = omega arith } (omega arith)) z
+]
 
 -- a send is taken where nobody waits, and otherwise only takes its sender out of the hearers
 pub send-quiet : (t : Table) (clock k i : ℕ) (c : Calendar) → c .hearers ≡ 0 → send t clock k i c ≡ taken t clock k i
@@ -132,6 +160,11 @@ pub send-waiting : (t : Table) (clock k i : ℕ) (c : Calendar) → (c .hearers 
 unfolding send
 send-waiting t clock k i c n = rw (not-quiet c n)
 
+-- its sender hears nothing after it
+pub send-same : (t : Table) (clock k i : ℕ) (c : Calendar) → has (send t clock k i c .hearers) i ≡ 0
+send-same t clock k i c = elim (same? (c .hearers) 0) [ inl e ↦ rw (send-quiet t clock k i c e) (taken-same t clock k i) | inr n ↦ rw (send-waiting t clock k i c n) (left-same c i) ]
+
+-- a frame of kind 0 is none
 pub sends-none : (t : Table) (clock i : ℕ) (c : Calendar) → sends t clock 0 i c ≡ c
 unfolding sends
 sends-none t clock i c = refl
@@ -142,8 +175,9 @@ sends-some t clock k i c l = rw (ne-eqb k 0 (omega arith))
 
 -- ---- calendars that meet the rules
 
+-- the empty calendar does
 pub empty-meets : (t : Table) (clock : ℕ) → CalendarMeets t clock emptyCalendar
-empty-meets t clock = record { empty = λ e. refl; few = λ i h. absurd (nobody-hears emptyCalendar i refl h); frame = λ n. absurd (n refl) }
+empty-meets t clock = record { empty = λ e. refl; few = λ i h. absurd (hearer-waits emptyCalendar i h refl); frame = λ n. absurd (n refl) }
 
 -- a settled calendar meets the rules where its hearers are heads and its frame, if it waits, is of the table's
 settled-meets : (t : Table) (clock : ℕ) (c : Calendar) → ((i : ℕ) → Hears c i → IsHead t i) → ((c .hearers ≡ 0 → ⊥) → FrameMeets t clock c) → CalendarMeets t clock (settled c)
@@ -152,13 +186,7 @@ settled-meets t clock c few frame = elim (same? (c .hearers) 0) [
   | inr n ↦ subst (CalendarMeets t clock) (sym (settled-frame c (λ e. n (sym (settled-hearers c) ∙ e)))) record { empty = λ e. absurd (n e); few = few; frame = frame }
 ]
 
--- who waits after head i is taken out has waited before
-without-hears : (h i j : ℕ) → has (without h i) j ≡ 1 → has h j ≡ 1
-without-hears h i j e = elim (same? j i) [
-  | inl x ↦ let z = without-same h i in let y = ap (λ (k : ℕ). has (without h i) k) x in absurd (omega arith)
-  | inr x ↦ sym (without-other h i j x) ∙ e
-]
-
+-- and so it does after a head leaves, after a frame is taken, and after a send
 pub left-meets : (t : Table) (clock i : ℕ) (c : Calendar) → CalendarMeets t clock c → CalendarMeets t clock (left c i)
 unfolding left
 left-meets t clock i c m = settled-meets t clock (heardBy c (without (c .hearers) i)) (λ j e. m .few j (without-hears (c .hearers) i j e)) frame
@@ -238,7 +266,7 @@ next-instant t s l = elim (same? (s .calendar .hearers) 0) [
 
 pub next-first : (t : Table) (s : State) (d : ℕ) → Instant t s d → nextInstant t s ≤ d
 next-first t s d (at-timeout i h e) = let l = next-timeout t s i h in omega arith
-next-first t s d (at-delivery i h e) = let l = next-delivery t s (λ z. nobody-hears (s .calendar) i z h) in omega arith
+next-first t s d (at-delivery i h e) = let l = next-delivery t s (hearer-waits (s .calendar) i h) in omega arith
 
 pub next-least : (t : Table) (s : State) → 1 ≤ t .n → Least t s (nextInstant t s)
 next-least t s l = record { instant = next-instant t s l; first = next-first t s }
@@ -267,15 +295,16 @@ is-due t s d = elim (either? (due t s)) [ inl x ↦ x | inr x ↦ let r = or-fal
   where
     undue : Due t s → some (t .n) (timerDue s) ≡ false → (not (quiet (s .calendar)) && eqb (s .calendar .delivery) (s .clock)) ≡ false → ⊥
     undue (a-timer i h e) x y = eqb-false _ _ (some-at (t .n) (timerDue s) x i (h .low) (h .high)) e
-    undue (a-delivery i h e) x y = let q = not-quiet (s .calendar) (λ z. nobody-hears (s .calendar) i z h) in not-both _ (both (ap not q) (eq-eqb _ _ e)) y
+    undue (a-delivery i h e) x y = let q = not-quiet (s .calendar) (hearer-waits (s .calendar) i h) in not-both _ (both (ap not q) (eq-eqb _ _ e)) y
 
 -- ---- in a state that meets the rules
 
+-- no instant is before the clock
 pub clock-instant : (t : Table) (s : State) → StateMeets t s → (d : ℕ) → Instant t s d → s .clock ≤ d
 clock-instant t s m d (at-timeout i h e) = let l = m .ahead i h in omega arith
-clock-instant t s m d (at-delivery i h e) = let l = m .frame (λ z. nobody-hears (s .calendar) i z h) .ahead in omega arith
+clock-instant t s m d (at-delivery i h e) = let l = m .frame (hearer-waits (s .calendar) i h) .ahead in omega arith
 
--- the clock never goes back
+-- so the next one is not: the clock never goes back
 pub clock-next : (t : Table) (s : State) → TableMeets t → StateMeets t s → s .clock ≤ nextInstant t s
 clock-next t s f m = clock-instant t s m (nextInstant t s) (next-instant t s (f .some-head))
 

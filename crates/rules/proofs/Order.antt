@@ -113,3 +113,22 @@ row-is a b c e = let r = first-is a _ e in let q = first-is b _ (r .1) in (r .0,
 pub is-row : {a b c : ℕ} → a ≡ 0 → b ≡ 0 → c ≡ 0 → firstOf (a ∷ b ∷ c ∷ []) ≡ 0
 unfolding firstOf
 is-row p q r = rw (p, q, r)
+
+-- which of a row of three gives its number n
+pub data Gives (a b c n : ℕ) : Type 0 where
+  by-first : a ≡ n → Gives a b c n
+  by-second : a ≡ 0 → b ≡ n → Gives a b c n
+  by-third : a ≡ 0 → b ≡ 0 → c ≡ n → Gives a b c n
+
+pub row-gives : (a b c n : ℕ) → firstOf (a ∷ b ∷ c ∷ []) ≡ suc n → Gives a b c (suc n)
+unfolding firstOf
+row-gives zero zero zero n e = absurd (omega arith)
+row-gives zero zero (suc c) n e = by-third refl refl e
+row-gives zero (suc b) c n e = by-second refl e
+row-gives (suc a) b c n e = by-first e
+
+-- a test that refuses gives its own number
+pub unless-gives : (b : Bool) (x : Refusal) (n : ℕ) → unless b x ≡ suc n → numberOf x ≡ suc n
+unfolding unless
+unless-gives true x n e = absurd (omega arith)
+unless-gives false x n e = e
