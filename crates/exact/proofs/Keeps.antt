@@ -58,7 +58,7 @@ timer-kind t i (Active k) = elim (either? (eqb (slotAfter t k) i)) [ inl e ↦ r
 
 -- the head that joins, and every head that hears, meets the rules
 joined-meets : (t : Table) (clock i : ℕ) (c : Calendar) → TableMeets t → IsHead t (c .origin) → HeadMeets t clock i (joined t clock c)
-unfolding joined PhaseMeets
+unfolding PhaseMeets
 joined-meets t clock i c f o = let q = f .short in record { ahead = omega arith; phase = (omega arith, o) }
 
 hear-meets : (t : Table) (clock i : ℕ) (c : Calendar) (h : Head) (p : Phase) → TableMeets t → IsHead t (c .origin) → HeadMeets t clock i h → HeadMeets t clock i (hearHead t clock i c h p)

@@ -96,7 +96,7 @@ unfoldable pub listenerWait : Table → ℕ → ℕ
 listenerWait t i = coldstartWait t i
 
 -- "to active, slot = origin, timeout T + S - P"
-unfoldable pub joined : Table → ℕ → Calendar → Head
+abbrev pub joined : Table → ℕ → Calendar → Head
 joined t clock c = headIn (Active (c .origin)) (clock + t .s - t .p)
 
 -- "init or active: nothing else. listen, coldstart frame: to coldstart, timeout T + R + (i-1)S. listen with an i-frame, or coldstart with either kind: to active"

@@ -47,15 +47,15 @@ fn taken(t: Table, clock: u32, kind: u8, i: u8) -> Calendar
     })
 }
 
-// Send by i at the clock: taken where no hearer waits, otherwise dropped, and i no longer hears.
+// Send by i at the clock: dropped where hearers wait, and i no longer hears; otherwise taken.
 fn send(t: Table, clock: u32, kind: u8, i: u8, c: Calendar) -> Calendar
     requires { ⌜ Sender t clock i ⌝ }
     ensures { λ r. ⌜ r ≡ send t clock kind i c ⌝ }
 {
-    if c.hearers == 0 {
-        return taken(t, clock, kind, i);
+    if c.hearers != 0 {
+        return left(c, i);
     }
-    left(c, i)
+    taken(t, clock, kind, i)
 }
 
 // The calendar after a frame of a kind is sent, or as it was where the kind is 0.

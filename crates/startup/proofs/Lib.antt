@@ -1,0 +1,13 @@
+pub mod Laws
+pub mod Rules
+pub mod Phases
+pub mod Opening
+pub mod FromQuiet
+pub mod FirstJoin
+pub mod FromCold
+pub mod FromLive
+pub mod Main
+pub mod Link
+pub mod InStep
+pub mod Reached
+pub mod GoesOn
