@@ -28,11 +28,11 @@ impl State {
     pub fn blank() -> State
         ensures { λ r. ⌜ r ≡ blank ⌝ }
     {
-        let c = Calendar::empty();
+        let quiet = Calendar::empty();
         State {
             clock: 0,
             n: 0,
-            calendar: c,
+            calendar: quiet,
             heads: [Head {
                 phase: Phase::Init,
                 timeout: 0,
