@@ -12,13 +12,12 @@ use Rattle.rules.specs.declared.Step.the-variants.{Advance, Timer, Hear}
 use Rattle.rules.specs.declared.Refusal.the-variants.{TableRange, StateRule, NoSuchStep, SomethingDue, TimerNotDue, NotHearing, PastCeiling, OwnFrame}
 use Rattle.rules.specs.Limits.{ceiling}
 use Rattle.rules.specs.Table.{tableRefusal}
-use Rattle.rules.specs.Calendar.{hears}
 use Rattle.rules.specs.State.{stateRefusal}
 use Rattle.rules.specs.Step.{due, timerDue, nextInstant, advance, moved}
 use Rattle.rules.specs.Judge.{nameRefusal, dueRefusal, lastRefusal, stepRefusal, refusal}
 use Rattle.rules.specs.Conditions.{TableMeets, Hears, StateMeets, Least, Enabled}
 use Rattle.rules.proofs.Each.{and-true, both, either?, not-both}
-use Rattle.rules.proofs.Meaning.{head-is, is-head, hears-is, is-hears, table-meets, meets-table, state-meets, meets-state, hearer-waits}
+use Rattle.rules.proofs.Meaning.{head-is, is-head, hear-due-is, is-hear-due, table-meets, meets-table, state-meets, meets-state, hearer-waits}
 use Rattle.rules.proofs.Order.{unless-is, is-unless, row-is, is-row, by-first, by-second, by-third, row-gives, unless-gives}
 use Rattle.rules.proofs.Moves.{next-first, next-least, due-is, is-due}
 use Rattle.exact.specs.Claims.{AcceptedExactly, NeverOwnFrame, AdvanceLeast}
@@ -40,7 +39,7 @@ module _ (t : Table) (s : State) (f : TableMeets t) (m : StateMeets t s) where
     (nextInstant t s, (next-least t s (f .some-head), leb-true _ _ (unless-is _ PastCeiling (r .2)))),
   )
   enabled-is (Timer i) e = let r = row-is _ _ _ e in (head-is t i (unless-is _ NoSuchStep (r .0)), eqb-true _ _ (unless-is _ TimerNotDue (r .1)))
-  enabled-is (Hear i) e = let r = row-is _ _ _ e in let w = and-true (hears (s .calendar) i) _ (unless-is _ NotHearing (r .1)) in (hears-is (s .calendar) i (w .0), eqb-true _ _ (w .1))
+  enabled-is (Hear i) e = let r = row-is _ _ _ e in hear-due-is (s .clock) (s .calendar) i (unless-is _ NotHearing (r .1))
 
   -- an enabled step is refused by no number
   pub is-enabled : (x : Step) → Enabled t s x → stepRefusal t s x ≡ 0
@@ -52,7 +51,7 @@ module _ (t : Table) (s : State) (f : TableMeets t) (m : StateMeets t s) where
   is-enabled (Timer i) e = is-row (is-unless _ NoSuchStep (is-head t i (e .0))) (is-unless _ TimerNotDue (eq-eqb _ _ (e .1))) refl
   is-enabled (Hear i) e = is-row
       (is-unless _ NoSuchStep (is-head t i (m .few i (e .0))))
-      (is-unless _ NotHearing (both (is-hears (s .calendar) i (e .0)) (eq-eqb _ _ (e .1))))
+      (is-unless _ NotHearing (is-hear-due (s .clock) (s .calendar) i (e .0) (e .1)))
       (is-unless _ OwnFrame (ap not (ne-eqb _ _ (hearer-not-origin t s m i (e .0)))))
 
 -- so a step is accepted just when it is enabled
@@ -90,7 +89,7 @@ never-own-frame t s x e = elim (row-gives _ _ _ 12 e) [
     step (Hear i) m e = elim (row-gives _ _ _ 12 e) [
       | by-first p ↦ omega (arith, unless-gives _ NoSuchStep 12 p)
       | by-second a p ↦ omega (arith, unless-gives _ NotHearing 12 p)
-      | by-third a b p ↦ let h = hears-is (s .calendar) i (and-true (hears (s .calendar) i) _ (unless-is _ NotHearing b) .0) in
+      | by-third a b p ↦ let h = hear-due-is (s .clock) (s .calendar) i (unless-is _ NotHearing b) .0 in
           let z = is-unless _ OwnFrame (ap not (ne-eqb _ _ (hearer-not-origin t s m i h))) in omega arith
     ]
 

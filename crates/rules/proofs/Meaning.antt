@@ -20,7 +20,7 @@ use Rattle.rules.specs.declared.Table.{Table}
 use Rattle.rules.specs.Limits.{maxHeads, shortestSlot, longestSlot, latestWake, ceiling}
 use Rattle.rules.specs.Each.{between, every}
 use Rattle.rules.specs.Table.{isHead, wakeOf, numbersFit, wakeFits, tableFits}
-use Rattle.rules.specs.Calendar.{coldstartFrame, iFrame, quiet, hears, emptyCalendar, allZero, frameFits, calendarFits}
+use Rattle.rules.specs.Calendar.{coldstartFrame, iFrame, quiet, hears, hearDue, emptyCalendar, allZero, frameFits, calendarFits}
 use Rattle.rules.specs.State.{noHead, headOf, timeoutOf, phaseNumber, phaseFits, headFits, isZero, placeFits, frontFits, stateFits}
 use Rattle.rules.specs.Conditions.{IsHead, TableMeets, Hears, FrameMeets, PhaseMeets, StateMeets}
 use Rattle.rules.proofs.Each.{same?, less?, and-true, both, either?, not-both, between-is, is-between, every-at, every-of}
@@ -127,6 +127,14 @@ hears-not c i e = eqb-false (has (c .hearers) i) 1 e
 pub not-hears : (c : Calendar) (i : ℕ) → (Hears c i → ⊥) → hears c i ≡ false
 unfolding hears
 not-hears c i e = ne-eqb _ _ e
+
+pub hear-due-is : (clock : ℕ) (c : Calendar) (i : ℕ) → hearDue clock c i ≡ true → Hears c i × (c .delivery ≡ clock)
+unfolding hearDue
+hear-due-is clock c i e = let r = and-true (hears c i) _ e in (hears-is c i (r .0), eqb-true _ _ (r .1))
+
+pub is-hear-due : (clock : ℕ) (c : Calendar) (i : ℕ) → Hears c i → c .delivery ≡ clock → hearDue clock c i ≡ true
+unfolding hearDue
+is-hear-due clock c i h e = both (is-hears c i h) (eq-eqb _ _ e)
 
 pub quiet-is : (c : Calendar) → quiet c ≡ true → c .hearers ≡ 0
 unfolding quiet

@@ -51,6 +51,10 @@ send t clock k i c = cond (quiet c) (taken t clock k i) (left c i)
 unfoldable pub deliveryDue : ℕ → Calendar → Bool
 deliveryDue clock c = not (quiet c) && eqb (c .delivery) clock
 
+-- "i is a hearer and delivery equals T"
+unfoldable pub hearDue : ℕ → Calendar → ℕ → Bool
+hearDue clock c i = hears c i && eqb (c .delivery) clock
+
 -- state rules: "with no hearer, all calendar fields are zero"
 unfoldable pub allZero : Calendar → Bool
 allZero c = eqb (c .kind) 0 && (eqb (c .origin) 0 && (eqb (c .sent) 0 && eqb (c .delivery) 0))

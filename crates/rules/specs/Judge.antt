@@ -11,7 +11,7 @@ use Rattle.rules.specs.declared.Refusal.the-variants.{NoSuchStep, Someth
 use Rattle.rules.specs.Limits.{ceiling}
 use Rattle.rules.specs.Refusal.{unless, firstOf}
 use Rattle.rules.specs.Table.{isHead, tableRefusal}
-use Rattle.rules.specs.Calendar.{hears}
+use Rattle.rules.specs.Calendar.{hearDue}
 use Rattle.rules.specs.State.{stateRefusal}
 use Rattle.rules.specs.Step.{due, timerDue, nextInstant, moved}
 
@@ -25,7 +25,7 @@ nameRefusal t (Hear i) = unless (isHead t i) NoSuchStep
 unfoldable pub dueRefusal : Table → State → Step → ℕ
 dueRefusal t s Advance = unless (not (due t s)) SomethingDue
 dueRefusal t s (Timer i) = unless (timerDue s i) TimerNotDue
-dueRefusal t s (Hear i) = unless (hears (s .calendar) i && eqb (s .calendar .delivery) (s .clock)) NotHearing
+dueRefusal t s (Hear i) = unless (hearDue (s .clock) (s .calendar) i) NotHearing
 
 -- "11: advance would pass the ceiling. 13: the hearing head is the frame's origin"
 unfoldable pub lastRefusal : Table → State → Step → ℕ

@@ -23,7 +23,7 @@ use Rattle.rules.specs.declared.Refusal.the-variants.{NoSuchStep, SomethingDue,
 use Rattle.rules.specs.Limits.{maxHeads, longestSlot, ceiling}
 use Rattle.rules.specs.Refusal.{numberOf, unless, firstOf}
 use Rattle.rules.specs.Table.{isHead, round, offset, tableFits}
-use Rattle.rules.specs.Calendar.{coldstartFrame, iFrame, quiet, hears, emptyCalendar, settled, left, taken, send}
+use Rattle.rules.specs.Calendar.{coldstartFrame, iFrame, quiet, hears, hearDue, emptyCalendar, settled, left, taken, send}
 use Rattle.rules.specs.State.{headIn, noHead, headOf, put, timeoutOf, phaseOf, listenWait, coldstartWait, stateFits}
 use Rattle.rules.specs.Step.{timerDue, due, leastTimeout, nextInstant, advance, slotAfter, timerHead, timerFrame, sends, timer, listenerWait, joined, hearHead, hear, moved}
 use Rattle.rules.specs.Judge.{nameRefusal, dueRefusal, lastRefusal, stepRefusal, stateAfter}
@@ -211,16 +211,16 @@ module _ (hs : List Head) (clock i : ℕ) (a : 1 ≤ i) where
 
 -- the test of a hearing, by its two halves as the code makes them
 module _ (c : Calendar) (clock i : ℕ) where
-  pub deaf : eqb (has (c .hearers) i) 1 ≡ false → (hears c i && eqb (c .delivery) clock) ≡ false
-  unfolding hears
+  pub deaf : eqb (has (c .hearers) i) 1 ≡ false → hearDue clock c i ≡ false
+  unfolding hearDue hears
   deaf e = rw e
 
-  pub not-now : eqb (has (c .hearers) i) 1 ≡ true → (c .delivery ≡ clock → ⊥) → (hears c i && eqb (c .delivery) clock) ≡ false
-  unfolding hears
+  pub not-now : eqb (has (c .hearers) i) 1 ≡ true → (c .delivery ≡ clock → ⊥) → hearDue clock c i ≡ false
+  unfolding hearDue hears
   not-now e n = rw (e, ne-eqb _ _ n)
 
-  pub hears-now : eqb (has (c .hearers) i) 1 ≡ true → c .delivery ≡ clock → (hears c i && eqb (c .delivery) clock) ≡ true
-  unfolding hears
+  pub hears-now : eqb (has (c .hearers) i) 1 ≡ true → c .delivery ≡ clock → hearDue clock c i ≡ true
+  unfolding hearDue hears
   hears-now e n = rw (e, eq-eqb _ _ n)
 
 module _ (t : Table) (s : State) (i : ℕ) where
@@ -240,20 +240,20 @@ module _ (t : Table) (s : State) (i : ℕ) where
   unfolding stepRefusal nameRefusal
   hear-unnamed e = rw (unless-not (isHead t i) NoSuchStep e) (first-some (numberOf NoSuchStep) _ (λ z. omega arith))
 
-  pub hear-shut : isHead t i ≡ true → (hears (s .calendar) i && eqb (s .calendar .delivery) (s .clock)) ≡ false → stepRefusal t s (Hear i) ≡ numberOf NotHearing
+  pub hear-shut : isHead t i ≡ true → hearDue (s .clock) (s .calendar) i ≡ false → stepRefusal t s (Hear i) ≡ numberOf NotHearing
   unfolding stepRefusal nameRefusal dueRefusal
-  hear-shut e n = first-none _ _ (is-unless (isHead t i) NoSuchStep e) ∙ rw (unless-not (hears (s .calendar) i && eqb (s .calendar .delivery) (s .clock)) NotHearing n) (first-some (numberOf NotHearing) _ (λ z. omega arith))
+  hear-shut e n = first-none _ _ (is-unless (isHead t i) NoSuchStep e) ∙ rw (unless-not (hearDue (s .clock) (s .calendar) i) NotHearing n) (first-some (numberOf NotHearing) _ (λ z. omega arith))
 
-  pub hear-own : isHead t i ≡ true → (hears (s .calendar) i && eqb (s .calendar .delivery) (s .clock)) ≡ true → i ≡ s .calendar .origin → stepRefusal t s (Hear i) ≡ numberOf OwnFrame
+  pub hear-own : isHead t i ≡ true → hearDue (s .clock) (s .calendar) i ≡ true → i ≡ s .calendar .origin → stepRefusal t s (Hear i) ≡ numberOf OwnFrame
   unfolding stepRefusal nameRefusal dueRefusal lastRefusal
   hear-own e n o =
-      first-none _ _ (is-unless (isHead t i) NoSuchStep e) ∙ first-none _ _ (is-unless (hears (s .calendar) i && eqb (s .calendar .delivery) (s .clock)) NotHearing n)
+      first-none _ _ (is-unless (isHead t i) NoSuchStep e) ∙ first-none _ _ (is-unless (hearDue (s .clock) (s .calendar) i) NotHearing n)
       ∙ first-last (unless (not (eqb i (s .calendar .origin))) OwnFrame) ∙ unless-not (not (eqb i (s .calendar .origin))) OwnFrame (ap not (eq-eqb i (s .calendar .origin) o))
 
-  pub hear-open : isHead t i ≡ true → (hears (s .calendar) i && eqb (s .calendar .delivery) (s .clock)) ≡ true → (i ≡ s .calendar .origin → ⊥) → stepRefusal t s (Hear i) ≡ 0
+  pub hear-open : isHead t i ≡ true → hearDue (s .clock) (s .calendar) i ≡ true → (i ≡ s .calendar .origin → ⊥) → stepRefusal t s (Hear i) ≡ 0
   unfolding stepRefusal nameRefusal dueRefusal lastRefusal
   hear-open e n o =
-      is-row (is-unless (isHead t i) NoSuchStep e) (is-unless (hears (s .calendar) i && eqb (s .calendar .delivery) (s .clock)) NotHearing n)
+      is-row (is-unless (isHead t i) NoSuchStep e) (is-unless (hearDue (s .clock) (s .calendar) i) NotHearing n)
       (is-unless (not (eqb i (s .calendar .origin))) OwnFrame (ap not (ne-eqb i (s .calendar .origin) o)))
 
 module _ (t : Table) (s : State) (f : tableFits t ≡ true) (g : stateFits t s ≡ true) (next : ℕ) (e : next ≡ nextInstant t s) where
