@@ -15,7 +15,7 @@ use Rattle.rules.specs.declared.Step.the-variants.{Advance, Timer, Hear}
 use Rattle.rules.specs.Each.{every, some}
 use Rattle.rules.specs.Refusal.{unless, firstOf}
 use Rattle.rules.specs.Table.{isHead, round, offset, wakeOf, numbersFit, wakeFits, tableFits, tableRefusal}
-use Rattle.rules.specs.Calendar.{quiet, hears, settled, left, taken, send, deliveryDue, allZero, frameFits, calendarFits}
+use Rattle.rules.specs.Calendar.{quiet, hears, hearDue, settled, left, taken, send, deliveryDue, allZero, frameFits, calendarFits}
 use Rattle.rules.specs.State.{phaseOf, timeoutOf, headOf, put, listenWait, coldstartWait, phaseFits, headFits, isZero, placeFits, frontFits, stateFits, stateRefusal, fresh}
 use Rattle.rules.specs.Step.{timerDue, due, leastTimeout, nextInstant, advance, slotAfter, timerHead, timerFrame, sends, timer, listenerWait, hearHead, hear, moved}
 use Rattle.rules.specs.Judge.{nameRefusal, dueRefusal, lastRefusal, stepRefusal, stateAfter, refusal, judged}
@@ -93,7 +93,7 @@ pub record AtBound (s : State) : Type 0 where
   pub one : phaseOf s 1 ≡ Coldstart
 
 pub reached : Run tableE listing (played tableE listing) × BothAgreed (played tableE sixteen) × NotYetAgreed (played tableE halfTurned) × SixLater (played tableE sixLater) × AtBound (played tableB toBound)
-unfolding accepts playedFrom lastOf every some unless firstOf isHead round offset wakeOf numbersFit wakeFits tableFits tableRefusal quiet hears settled left taken send deliveryDue allZero frameFits calendarFits headOf put listenWait coldstartWait phaseFits headFits isZero placeFits frontFits stateFits stateRefusal fresh timerDue due leastTimeout nextInstant advance slotAfter timerHead timerFrame sends timer listenerWait hearHead hear moved nameRefusal dueRefusal lastRefusal stepRefusal stateAfter refusal judged has alone without allBut
+unfolding accepts playedFrom lastOf every some unless firstOf isHead round offset wakeOf numbersFit wakeFits tableFits tableRefusal quiet hears hearDue settled left taken send deliveryDue allZero frameFits calendarFits headOf put listenWait coldstartWait phaseFits headFits isZero placeFits frontFits stateFits stateRefusal fresh timerDue due leastTimeout nextInstant advance slotAfter timerHead timerFrame sends timer listenerWait hearHead hear moved nameRefusal dueRefusal lastRefusal stepRefusal stateAfter refusal judged has alone without allBut
 reached = (
   run-on tableE listing power-up refl,
   record { run = run-on tableE sixteen power-up refl; idle = refl; one = (refl, refl); two = (refl, refl) },
