@@ -4,5 +4,6 @@ pub mod Meaning
 pub mod Waits
 pub mod Checks
 pub mod Moves
+pub mod Rooms
 pub mod Known
 pub mod Unique

@@ -4,6 +4,7 @@ use Prim.Native.Nat.{ℕ}
 use borrow.Fn.Kinds as K
 use Rattle.rules.specs.declared.State.{State}
 use Rattle.rules.specs.declared.Judged.{Judged}
+use Rattle.rules.specs.declared.Written.{Written}
 use Rattle.rules.specs.Refusal.{verdictNumber}
 use Rattle.rules.proofs.Order.{verdict-one}
 use Rattle.rules.proofs.Table.check.Reads as table-check
@@ -32,6 +33,10 @@ use Rattle.rules.proofs.Step.head.Kinds as step-head-kinds
 -- a verdict's number and a state make one answer
 pub judged-one : (r q : Judged) {n : ℕ} {s : State} → (verdictNumber (r .verdict) ≡ n) × (r .state ≡ s) → (verdictNumber (q .verdict) ≡ n) × (q .state ≡ s) → r ≡ q
 judged-one r q p e = λ i. record { verdict = verdict-one (r .verdict) (q .verdict) (p .0 ∙ sym (e .0)) i; state = (p .1 ∙ sym (e .1)) i }
+
+-- and so do a verdict's number and a count of bytes
+pub written-one : (r q : Written) {n bytes : ℕ} → verdictNumber (r .verdict) ≡ n → verdictNumber (q .verdict) ≡ n → r .bytes ≡ bytes → q .bytes ≡ bytes → r ≡ q
+written-one r q a b c d = λ i. record { verdict = verdict-one (r .verdict) (q .verdict) (a ∙ sym b) i; bytes = (c ∙ sym d) i }
 
 pub table-check-one : (a : K.Dens tt table-check-kinds.ps) (r q : _) (s u : _) → table-check.Post tt a r s → table-check.Post tt a q u → r ≡ q
 table-check-one a r q s u p e = verdict-one r q (p ∙ sym e)

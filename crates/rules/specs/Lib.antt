@@ -6,4 +6,5 @@ pub mod Calendar
 pub mod State
 pub mod Step
 pub mod Judge
+pub mod Room
 pub mod Conditions

@@ -80,3 +80,9 @@ pub struct Judged {
     pub verdict: Verdict,
     pub state: State,
 }
+
+// What a writer into lent room answers: how many bytes it wrote, 0 where it refuses.
+pub struct Written {
+    pub verdict: Verdict,
+    pub bytes: usize,
+}

@@ -1,0 +1,5 @@
+pub mod Bytes
+pub mod Room
+pub mod Fields
+pub mod TableImage
+pub mod StateImage

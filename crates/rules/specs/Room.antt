@@ -1,0 +1,20 @@
+-- Lent room, before and after a writer of an image or of a step list: document 01, "Refusal numbers".
+use mathlib.Core.Bool.{cond}
+use mathlib.Core.List.{List, [], _∷_, _++_}
+use Prim.Native.Nat.{ℕ}
+use lib.Dec.{eqb, leb}
+use lib.ListN.{length, drop}
+use Rattle.rules.specs.declared.Refusal.the-variants.{ShortRoom}
+use Rattle.rules.specs.Refusal.{unless, firstOf}
+
+-- "Writers and the step list: 3, 6 where a state is given, then 12": the refusal of what is given, then "12: room shorter than the image or step list"
+unfoldable pub writeRefusal : ℕ → List ℕ → List ℕ → ℕ
+writeRefusal unfit image room = firstOf (unfit ∷ unless (leb (length image) (length room)) ShortRoom ∷ [])
+
+-- "a refused writer or step list answers 0 bytes. A writer that accepts answers the number of bytes written"
+unfoldable pub bytesWritten : ℕ → List ℕ → ℕ
+bytesWritten refusal image = cond (eqb refusal 0) (length image) 0
+
+-- "and leaves the room past its image or step list untouched"; one that refuses leaves all of it
+unfoldable pub roomAfter : ℕ → List ℕ → List ℕ → List ℕ
+roomAfter refusal image room = cond (eqb refusal 0) (image ++ drop (length image) room) room

@@ -1,0 +1,185 @@
+-- The search and the runs, case by case and in the code's own terms: each return of a function cites one law.
+use mathlib.Core.Path.{_≡_, refl, sym, ap, _∙_}
+use mathlib.Core.Bool.{Bool, true, false, _&&_}
+use mathlib.Core.List.{List, [], _∷_, _++_}
+use Prim.Native.Nat.{ℕ, suc, _+_, _-_, _≤_, _<_, min}
+use native.Mathlib.Nat.{min-eq-left, min-eq-right, le-of-lt}
+use native.Mathlib.Numerals.{add-one}
+use native.Mathlib.Omega.{arith}
+use lib.Dec.{eqb}
+use lib.ListN.{length, getD, drop, drop-of-length-le}
+use lib.Seq.{drop-cons}
+use borrow.Author.Tests.{eq-eqb, ne-eqb}
+use Rattle.hearers.specs.Set.{has}
+use Rattle.rules.specs.declared.Calendar.{Calendar}
+use Rattle.rules.specs.declared.State.{State}
+use Rattle.rules.specs.declared.Table.{Table}
+use Rattle.rules.specs.declared.Step.{Step}
+use Rattle.rules.specs.declared.Step.the-variants.{Advance, Timer, Hear}
+use Rattle.rules.specs.declared.Refusal.the-variants.{NoSuchStep}
+use Rattle.rules.specs.Refusal.{numberOf}
+use Rattle.rules.specs.Table.{tableFits}
+use Rattle.rules.specs.Calendar.{hears}
+use Rattle.rules.specs.State.{noHead, headOf, stateFits}
+use Rattle.rules.specs.Step.{stepOf, timerDue, moved}
+use Rattle.rules.specs.Judge.{stepRefusal, stateAfter, recordRefusal}
+use Rattle.rules.proofs.Meaning.{table-meets, state-meets, meets-state}
+use Rattle.exact.proofs.Keeps.{keeps}
+use Rattle.rules.specs.Calendar.{hearDue}
+use Rattle.runs.specs.Open.{onlyIf, openAt, openTo, openSteps, firstOr, firstDue}
+use Rattle.runs.specs.Run.{Outcome, stopped, onward, runFrom, checked}
+use Rattle.runs.specs.Chosen.{longestRun, onFirst, policyFrom}
+use Rattle.runs.proofs.Opens.{starts, first-open, first-refused}
+
+-- ---- what is due at one head
+
+pub hear-later : (clock : ℕ) (c : Calendar) (i : ℕ) → (c .delivery ≡ clock → ⊥) → false ≡ hearDue clock c i
+unfolding hearDue
+hear-later clock c i n = rw (ne-eqb _ _ n) (and-no (hears c i))
+  where
+    and-no : (b : Bool) → false ≡ (b && false)
+    and-no true = refl
+    and-no false = refl
+
+pub hear-now : (clock : ℕ) (c : Calendar) (i : ℕ) → c .delivery ≡ clock → eqb (has (c .hearers) i) 1 ≡ hearDue clock c i
+unfolding hearDue hears
+hear-now clock c i e = rw (eq-eqb _ _ e) (and-yes (eqb (has (c .hearers) i) 1))
+  where
+    and-yes : (b : Bool) → b ≡ (b && true)
+    and-yes true = refl
+    and-yes false = refl
+
+-- by the index that the code has, one below the head's number
+module _ (s : State) (k : ℕ) where
+  pub timer-now : getD (s .heads) k noHead .timeout ≡ s .clock → timerDue s (suc k) ≡ true
+  unfolding timerDue headOf
+  timer-now e = eq-eqb _ _ e
+
+  pub timer-later : (getD (s .heads) k noHead .timeout ≡ s .clock → ⊥) → timerDue s (suc k) ≡ false
+  unfolding timerDue headOf
+  timer-later n = ne-eqb _ _ n
+
+  -- one head more
+  pub to-more : openTo s (k + 1) ≡ openTo s k ++ openAt s (suc k)
+  unfolding openTo
+  to-more = rw add-one
+
+-- ---- the search: nothing is due at the first k heads
+
+module _ (s : State) (n k : ℕ) (before : openTo s k ≡ []) where
+  pub found-none : k ≡ n → Advance ≡ firstDue s n
+  unfolding firstDue firstOr
+  found-none e = rw (← e, before)
+
+  -- what is due at the next head is the first that is due
+  found-at : k < n → (x : Step) (r : List Step) → openAt s (suc k) ≡ x ∷ r → x ≡ firstDue s n
+  unfolding firstDue firstOr openTo
+  found-at l x r e = let q = starts s n (suc k) (omega arith) x r (rw before e) in rw (q .1)
+
+  pub found-timer : k < n → getD (s .heads) k noHead .timeout ≡ s .clock → Timer (k + 1) ≡ firstDue s n
+  unfolding openAt onlyIf
+  found-timer l e = rw add-one (found-at l (Timer (suc k)) (onlyIf (hearDue (s .clock) (s .calendar) (suc k)) (Hear (suc k))) (rw (timer-now s k e)))
+
+  pub found-hear : k < n → (getD (s .heads) k noHead .timeout ≡ s .clock → ⊥) → hearDue (s .clock) (s .calendar) (k + 1) ≡ true → Hear (k + 1) ≡ firstDue s n
+  unfolding openAt onlyIf
+  found-hear l e h = rw add-one (found-at l (Hear (suc k)) [] (rw (timer-later s k e, rw add-one at h)))
+
+pub found-later : (s : State) (k : ℕ) → openTo s k ≡ [] → (getD (s .heads) k noHead .timeout ≡ s .clock → ⊥) → hearDue (s .clock) (s .calendar) (k + 1) ≡ false → openTo s (k + 1) ≡ []
+unfolding openAt onlyIf
+found-later s k before e h = to-more s k ∙ rw (before, timer-later s k e, rw add-one at h)
+
+-- ---- runs: stopped, or on
+
+pub on-stops : (s : State) (k n : ℕ) (o : Outcome) → (n ≡ 0 → ⊥) → onward s k n o ≡ stopped s k n
+unfolding onward
+on-stops s k n o z = rw (ne-eqb n 0 z)
+
+pub on-goes : (s : State) (k n : ℕ) (o : Outcome) → n ≡ 0 → onward s k n o ≡ o
+unfolding onward
+on-goes s k n o e = rw e
+
+module _ (t : Table) (s : State) (o : Outcome) where
+  pub unfit : (n : ℕ) → n ≡ recordRefusal t s → (recordRefusal t s ≡ 0 → ⊥) → stopped s 0 n ≡ checked t s o
+  unfolding checked
+  unfit n e z = ap (stopped s 0) e ∙ sym (on-stops s 0 (recordRefusal t s) o z)
+
+  pub fit : recordRefusal t s ≡ 0 → o ≡ checked t s o
+  unfolding checked
+  fit e = sym (on-goes s 0 (recordRefusal t s) o e)
+
+-- an accepted step keeps the state rules
+pub moved-fits : (t : Table) (s : State) (x : Step) → tableFits t ≡ true → stateFits t s ≡ true → stepRefusal t s x ≡ 0 → stateFits t (moved t s x) ≡ true
+moved-fits t s x f g e = let m = table-meets t f in meets-state t (moved t s x) (keeps t s x m (state-meets t s (m .heads) g) e)
+
+after-moved : (t : Table) (s u : State) (x : Step) → stepRefusal t s x ≡ 0 → u ≡ stateAfter t s x (stepRefusal t s x) → u ≡ moved t s x
+unfolding stateAfter
+after-moved t s u x e a = rw e at a
+
+pub still-fits : (t : Table) (s u : State) (x : Step) → tableFits t ≡ true → stateFits t s ≡ true → stepRefusal t s x ≡ 0 → u ≡ stateAfter t s x (stepRefusal t s x) → stateFits t u ≡ true
+still-fits t s u x f g e a = rw (after-moved t s u x e a) (moved-fits t s x f g e)
+
+-- ---- a run of given steps: what is left of it at the byte i, after k accepted steps
+
+module _ (t : Table) (s : State) (k i : ℕ) (l : List ℕ) where
+  run-step : i + 1 < length l → (x : Step) → x ≡ stepOf (getD l i 0) (getD l (i + 1) 0)
+      → runFrom t s k (drop i l) ≡ onward s k (stepRefusal t s x) (runFrom t (moved t s x) (k + 1) (drop (i + 2) l))
+  unfolding runFrom
+  run-step h x e =
+      let p : i + 1 ≡ suc i = add-one i in
+      let q : i + 2 ≡ suc (suc i) = omega arith in
+      let a : i < length l = omega arith in
+      let b : suc i < length l = omega arith in
+      rw (e, p, q, add-one k, drop-cons l i 0 a, drop-cons l (suc i) 0 b)
+
+  run-lone : i < length l → length l ≤ i + 1 → runFrom t s k (drop i l) ≡ stopped s k (numberOf NoSuchStep)
+  unfolding runFrom
+  run-lone g h = let e : drop (suc i) l ≡ [] = drop-of-length-le l {i = suc i} (omega arith) in rw (drop-cons l i 0 g, e)
+
+  run-none : length l ≤ i → runFrom t s k (drop i l) ≡ stopped s k 0
+  unfolding runFrom
+  run-none h = rw (drop-of-length-le l h)
+
+-- the same against the whole run o
+module _ (t : Table) (s : State) (k i : ℕ) (l : List ℕ) {o : Outcome} (before : runFrom t s k (drop i l) ≡ o) where
+  pub run-on : i + 1 < length l → (x : Step) → x ≡ stepOf (getD l i 0) (getD l (i + 1) 0) → (u : State) → u ≡ stateAfter t s x (stepRefusal t s x) → stepRefusal t s x ≡ 0
+      → runFrom t u (k + 1) (drop (i + 2) l) ≡ o
+  run-on h x e u a z = rw (after-moved t s u x z a) (sym (run-step t s k i l h x e ∙ on-goes s k _ _ z) ∙ before)
+
+  pub run-refused : i + 1 < length l → (x : Step) → x ≡ stepOf (getD l i 0) (getD l (i + 1) 0) → (n : ℕ) → n ≡ stepRefusal t s x → (stepRefusal t s x ≡ 0 → ⊥) → stopped s k n ≡ o
+  run-refused h x e n r z = ap (stopped s k) r ∙ sym (run-step t s k i l h x e ∙ on-stops s k _ _ z) ∙ before
+
+  pub run-odd : i < length l → length l ≤ i + 1 → stopped s k (numberOf NoSuchStep) ≡ o
+  run-odd g h = sym (run-lone t s k i l g h) ∙ before
+
+  pub run-done : length l ≤ i → stopped s k 0 ≡ o
+  run-done h = sym (run-none t s k i l h) ∙ before
+
+-- ---- a run by the policy: what is left of it after k of n steps
+
+module _ (t : Table) (s : State) (f : tableFits t ≡ true) (g : stateFits t s ≡ true) (k n : ℕ) {o : Outcome} (before : policyFrom t s k (n - k) ≡ o) where
+  policy-turn : k < n → onFirst (openSteps t s) (λ x. policyFrom t (moved t s x) (k + 1) (n - (k + 1))) (stopped s k 0) ≡ o
+  unfolding policyFrom
+  policy-turn l = let e : n - k ≡ suc (n - (k + 1)) = omega arith in rw (add-one k) (rw (e, add-one k) at before)
+
+  pub policy-on : k < n → (x : Step) → x ≡ firstDue s (t .n) → (u : State) → u ≡ stateAfter t s x (stepRefusal t s x) → stepRefusal t s x ≡ 0 → policyFrom t u (k + 1) (n - (k + 1)) ≡ o
+  unfolding onFirst
+  policy-on l x e u a z =
+      let m = table-meets t f in
+      let r = first-open t s m (state-meets t s (m .heads) g) (rw e at z) in
+      rw (after-moved t s u x z a, e) (rw (r .1) at (policy-turn l))
+
+  pub policy-stuck : k < n → (x : Step) → x ≡ firstDue s (t .n) → (stepRefusal t s x ≡ 0 → ⊥) → stopped s k 0 ≡ o
+  unfolding onFirst
+  policy-stuck l x e z =
+      let m = table-meets t f in
+      rw (first-refused t s m (state-meets t s (m .heads) g) (rw e at z)) at (policy-turn l)
+
+  pub policy-done : n ≤ k → stopped s k 0 ≡ o
+  unfolding policyFrom
+  policy-done l = let e : n - k ≡ 0 = omega arith in rw e at before
+
+pub policy-short : (t : Table) (s : State) (n : ℕ) → n ≤ longestRun → policyFrom t s 0 n ≡ policyFrom t s 0 (min n longestRun)
+policy-short t s n l = ap (policyFrom t s 0) (sym (min-eq-left l))
+
+pub policy-long : (t : Table) (s : State) (n : ℕ) → longestRun < n → policyFrom t s 0 longestRun ≡ policyFrom t s 0 (min n longestRun)
+policy-long t s n l = ap (policyFrom t s 0) (sym (min-eq-right (le-of-lt l)))

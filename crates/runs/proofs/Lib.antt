@@ -1,0 +1,7 @@
+pub mod Opens
+pub mod Gathers
+pub mod Laws
+pub mod Lists
+pub mod Plays
+pub mod Chooses
+pub mod Unique

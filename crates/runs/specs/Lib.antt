@@ -1,0 +1,6 @@
+pub mod Open
+pub mod Listing
+pub mod Gathered
+pub mod Run
+pub mod Chosen
+pub mod Claims

@@ -1,0 +1,50 @@
+// A run of given steps.
+use crate::Ran;
+use crate::stopped;
+use rules::Refusal;
+use rules::State;
+use rules::Step;
+use rules::Table;
+use rules::Verdict;
+ghost use mathlib.Core.Path.{_≡_};
+ghost use mathlib.Core.Bool.{true};
+ghost use Rattle.rules.specs.Table.{tableFits};
+ghost use Rattle.rules.specs.State.{stateFits};
+ghost use Rattle.runs.specs.Run.{told, runFrom, run};
+
+// Plays steps given as pairs of bytes and stops at the first that is refused, in the state before it. A lone last byte is no step (7).
+pub fn run_given(t: Table, s: State, pairs: &[u8]) -> Ran
+    ensures { λ r. ⌜ told r ≡ run t s (now (pairs .entry)) ⌝ }
+{
+    let v = s.check(t);
+    let Verdict::Accepted = v else {
+        return stopped(s, 0, v);
+    };
+    run_from(t, s, pairs)
+}
+
+// The run itself, on a table and a state that fit.
+fn run_from(t: Table, s: State, pairs: &[u8]) -> Ran
+    requires { ⌜ (tableFits t ≡ true) × (stateFits t s ≡ true) ⌝ }
+    ensures { λ r. ⌜ told r ≡ runFrom t s 0 (now (pairs .entry)) ⌝ }
+{
+    let mut current = s;
+    let mut accepted: usize = 0;
+    let mut k: usize = 0;
+    while k + 1 < pairs.len() {
+        let x = Step::read(pairs[k], pairs[k + 1]);
+        let out = steps::attempt(t, current, x);
+        let v = out.verdict;
+        let Verdict::Accepted = v else {
+            return stopped(current, accepted, v);
+        };
+        let next = out.state;
+        current = next;
+        accepted += 1;
+        k += 2;
+    }
+    if k < pairs.len() {
+        return stopped(current, accepted, Verdict::Refused(Refusal::NoSuchStep));
+    }
+    stopped(current, accepted, Verdict::Accepted)
+}

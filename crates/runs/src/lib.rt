@@ -1,0 +1,40 @@
+// What a class does with the bench: see which steps are open, play a list of steps, let the fixed policy play. Each function checks
+// its table and its state once, by rules, and then only steps. It uses hearers, rules and steps, and the theorems of exact: that an
+// accepted step keeps the state rules is why nothing is checked again on the way.
+use rules::State;
+use rules::Verdict;
+ghost use mathlib.Core.Path.{_≡_};
+ghost use Rattle.rules.specs.Refusal.{verdictNumber};
+ghost use Rattle.runs.specs.Run.{stopped, told};
+
+mod given;
+mod listing;
+mod policy;
+mod search;
+
+pub use given::run_given;
+pub use listing::open_steps;
+pub use policy::run_policy;
+
+// What a run answers: the state it came to, how many steps were accepted, and what stopped it.
+pub struct Ran {
+    pub state: State,
+    pub accepted: usize,
+    pub verdict: Verdict,
+}
+
+impl Ran {
+    // The longest run that the policy plays.
+    pub const LONGEST: usize = 100000;
+}
+
+// A run that ends here.
+fn stopped(s: State, accepted: usize, v: Verdict) -> Ran
+    ensures { λ r. ⌜ told r ≡ stopped s accepted (verdictNumber v) ⌝ }
+{
+    Ran {
+        state: s,
+        accepted: accepted,
+        verdict: v,
+    }
+}

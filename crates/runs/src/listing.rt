@@ -1,0 +1,123 @@
+// The step list: every step that is accepted now, in lent room.
+use crate::search::hear_due;
+use rules::Refusal;
+use rules::State;
+use rules::Step;
+use rules::Table;
+use rules::Verdict;
+use rules::Written;
+ghost use mathlib.Core.Path.{_≡_};
+ghost use mathlib.Core.Bool.{true};
+ghost use mathlib.Core.List.{_++_};
+ghost use Prim.Native.Nat.{_+_, _≤_};
+ghost use lib.ListN.{length, take, drop};
+ghost use Rattle.rules.specs.Refusal.{verdictNumber};
+ghost use Rattle.rules.specs.Table.{tableFits};
+ghost use Rattle.rules.specs.State.{stateFits};
+ghost use Rattle.runs.specs.Open.{openTo, openSteps};
+ghost use Rattle.rules.specs.Room.{bytesWritten, roomAfter};
+ghost use Rattle.runs.specs.Listing.{listImage, listRefusal};
+ghost use Rattle.runs.specs.Gathered.{mostBytes, Holds, Adds};
+
+// Steps in bytes, gathered before any is written to the room: the first used bytes hold them. Sixty-four heads have at most two steps
+// each, of two bytes.
+struct Pairs {
+    bytes: [u8; 256],
+    used: usize,
+}
+
+// Writes the open steps as pairs of bytes and answers how many bytes they take; where it refuses, the room is left as it was.
+pub fn open_steps(t: Table, s: State, room: &mut [u8]) -> Written
+    ensures { λ r. ⌜ verdictNumber (r .verdict) ≡ listRefusal t s (now (room .entry)) ⌝ }
+    ensures { λ r. ⌜ r .bytes ≡ bytesWritten (listRefusal t s (now (room .entry))) (listImage t s) ⌝ }
+    ensures { λ r. ⌜ now (room .exit) ≡ roomAfter (listRefusal t s (now (room .entry))) (listImage t s) (now (room .entry)) ⌝ }
+{
+    let v = s.check(t);
+    let Verdict::Accepted = v else {
+        return Written {
+            verdict: v,
+            bytes: 0,
+        };
+    };
+    let found = open_pairs(t, s);
+    let bytes = found.used;
+    if room.len() < bytes {
+        return Written {
+            verdict: Verdict::Refused(Refusal::ShortRoom),
+            bytes: 0,
+        };
+    }
+    copy(found, room);
+    Written {
+        verdict: Verdict::Accepted,
+        bytes: bytes,
+    }
+}
+
+// What is due; where nothing is, advance alone, unless it would pass the ceiling.
+fn open_pairs(t: Table, s: State) -> Pairs
+    requires { ⌜ (tableFits t ≡ true) × (stateFits t s ≡ true) ⌝ }
+    ensures { λ r. ⌜ Holds r (openSteps t s) ⌝ }
+{
+    let found = due_pairs(s, t.n);
+    if 0 < found.used {
+        return found;
+    }
+    let out = steps::attempt(t, s, Step::Advance);
+    let v = out.verdict;
+    let Verdict::Accepted = v else {
+        return found;
+    };
+    with_step(found, true, Step::Advance)
+}
+
+// What is due, heads rising, timer before hear for one head.
+fn due_pairs(s: State, n: u8) -> Pairs
+    requires { ⌜ n ≤ 64 ⌝ }
+    ensures { λ r. ⌜ Holds r (openTo s n) ⌝ }
+{
+    let c = s.calendar;
+    let mut found = Pairs {
+        bytes: [0; 256],
+        used: 0,
+    };
+    let mut i: u8 = 0;
+    while i < n {
+        let timer = s.heads[i as usize].timeout == s.clock;
+        let hear = hear_due(s.clock, c, i + 1);
+        let timed = with_step(found, timer, Step::Timer(i + 1));
+        let heard = with_step(timed, hear, Step::Hear(i + 1));
+        found = heard;
+        i += 1;
+    }
+    found
+}
+
+// The pairs with one more step at their end, where a test holds.
+fn with_step(p: Pairs, ok: bool, x: Step) -> Pairs
+    requires { ⌜ p .used + 2 ≤ mostBytes ⌝ }
+    ensures { λ r. ⌜ Adds p ok x r ⌝ }
+{
+    if !ok {
+        return p;
+    }
+    let k = p.used;
+    let mut q = p;
+    q.bytes[k] = x.kind();
+    q.bytes[k + 1] = x.head();
+    q.used = k + 2;
+    q
+}
+
+// The used bytes at the front of the room.
+fn copy(p: Pairs, room: &mut [u8])
+    requires { ⌜ (length (p .bytes) ≡ mostBytes) × (p .used ≤ mostBytes) × (p .used ≤ length (now room)) ⌝ }
+    ensures { λ r. ⌜ now (room .exit) ≡ take (p .used) (p .bytes) ++ drop (p .used) (now (room .entry)) ⌝ }
+{
+    let used = p.used;
+    let mut k: usize = 0;
+    while k < used {
+        room[k] = p.bytes[k];
+        k += 1;
+    }
+}
