@@ -11,3 +11,4 @@ pub mod Link
 pub mod InStep
 pub mod Reached
 pub mod GoesOn
+pub mod Answered
