@@ -33,7 +33,7 @@ fn least_timeout(s: State, n: u8) -> u32
 }
 
 // The least timeout or, if hearers wait and it is earlier, the delivery tick.
-pub fn next_instant(t: Table, s: State) -> u32
+fn next_instant(t: Table, s: State) -> u32
     requires { ⌜ (1 ≤ t .n) × (t .n ≤ 64) ⌝ }
     ensures { λ r. ⌜ r ≡ nextInstant t s ⌝ }
 {
