@@ -16,7 +16,7 @@ use Rattle.rules.specs.State.{stateRefusal}
 use Rattle.rules.specs.Step.{due, timerDue, nextInstant, advance, moved}
 use Rattle.rules.specs.Judge.{nameRefusal, dueRefusal, lastRefusal, stepRefusal, refusal}
 use Rattle.rules.specs.Conditions.{TableMeets, Hears, StateMeets, Least, Enabled}
-use Rattle.rules.proofs.Each.{and-true, both, either?, not-both}
+use Rattle.rules.proofs.Each.{either?, not-both}
 use Rattle.rules.proofs.Meaning.{head-is, is-head, hear-due-is, is-hear-due, table-meets, meets-table, state-meets, meets-state, hearer-waits}
 use Rattle.rules.proofs.Order.{unless-is, is-unless, row-is, is-row, by-first, by-second, by-third, row-gives, unless-gives}
 use Rattle.rules.proofs.Moves.{next-first, next-least, due-is, is-due}

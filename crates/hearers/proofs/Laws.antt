@@ -1,6 +1,5 @@
 -- What the rules need to know of sets of heads. Everything above this crate cites these laws and never looks at bits.
 use mathlib.Core.Path.{_≡_, refl, sym, ap, _∙_}
-use mathlib.Core.Logic.{_⊎_, inl, inr}
 use Prim.Native.Nat.{ℕ, zero, suc, _+_, _-_, _*_, _/_, _%_, _^_, _≤_, _<_}
 use native.Mathlib.Nat.{one-mul, zero-mul, pow-suc, mul-assoc, mod-le, mul-le-mul-right, le-trans, div-mul-le-self, div-eq-of-lt, lt-of-lt-of-le}
 use native.Mathlib.Numerals.{one-add}
@@ -10,7 +9,7 @@ use lib.Pow.{shl-exact, high, ones-split, ones-lt, shr-shr, pow-pos, pow-mono}
 use lib.Dec.{lit<, eqb}
 use mathlib.Core.Bool.{true, false}
 use borrow.Author.Tests.{eqb-true, eqb-false}
-use Rattle.hearers.specs.Set.{has, alone, without, everyone, allBut}
+use Rattle.hearers.specs.Set.{has, alone, without, everyone}
 
 -- ---- the definitions as the code reaches them, by i - 1
 

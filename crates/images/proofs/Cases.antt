@@ -15,7 +15,7 @@ use Rattle.rules.specs.declared.Calendar.{Calendar}
 use Rattle.rules.specs.declared.Table.{Table}
 use Rattle.rules.specs.declared.State.{State}
 use Rattle.rules.specs.declared.Refusal.{Refusal}
-use Rattle.rules.specs.declared.Refusal.the-variants.{TableLength, TableMark, TableRange, StateLength, StateMark, StateRule, ShortRoom}
+use Rattle.rules.specs.declared.Refusal.the-variants.{TableLength, TableMark, TableRange, StateLength, StateMark, StateRule}
 use Rattle.rules.specs.Each.{every}
 use Rattle.rules.specs.Limits.{maxHeads}
 use Rattle.rules.specs.Refusal.{numberOf, unless, firstOf}

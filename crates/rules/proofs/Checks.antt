@@ -1,12 +1,12 @@
 -- The record checks and the fresh state, case by case and in the code's own terms: each return of a function cites one law.
-use mathlib.Core.Path.{_≡_, refl, sym, ap, _∙_}
-use mathlib.Core.Bool.{Bool, true, false, cond, not, _&&_}
-use mathlib.Core.Logic.{_⊎_, inl, inr}
+use mathlib.Core.Path.{_≡_, refl, sym, _∙_}
+use mathlib.Core.Bool.{Bool, true, false, not, _&&_}
+use mathlib.Core.Logic.{inl, inr}
 use mathlib.Core.List.{List, [], _∷_, map}
 use Prim.Native.Nat.{ℕ, zero, suc, _+_, _-_, _≤_, _<_}
 use native.Mathlib.Numerals.{add-one}
 use native.Mathlib.Omega.{arith}
-use lib.Dec.{eqb, leb, lit<}
+use lib.Dec.{eqb, leb}
 use lib.ListN.{length, getD, set, length-set, length-map, List·getD-map}
 use lib.Seq.{getD-set-same, getD-set-other, ext-getD}
 use borrow.Author.Tests.{leb-true, le-leb, lt-leb, eq-eqb, ne-eqb, not-true, not-false}
@@ -16,13 +16,13 @@ use Rattle.rules.specs.declared.Head.{Head}
 use Rattle.rules.specs.declared.State.{State}
 use Rattle.rules.specs.declared.Table.{Table}
 use Rattle.rules.specs.declared.Step.{Step}
-use Rattle.rules.specs.declared.Step.the-variants.{Advance, Timer, Hear}
+use Rattle.rules.specs.declared.Step.the-variants.{Timer}
 use Rattle.rules.specs.Limits.{maxHeads, ceiling}
 use Rattle.rules.specs.Each.{every}
 use Rattle.rules.specs.declared.Calendar.{Calendar}
 use Rattle.rules.specs.declared.Refusal.the-variants.{TableRange, StateRule}
-use Rattle.rules.specs.Refusal.{numberOf, unless, firstOf}
-use Rattle.rules.specs.Judge.{recordRefusal}
+use Rattle.rules.specs.Refusal.{numberOf, unless}
+use Rattle.rules.specs.Judge.{stepRefusal, recordRefusal, refusal}
 use Rattle.rules.specs.Table.{isHead, wakeOf, numbersFit, wakeFits, tableFits, tableRefusal}
 use Rattle.rules.specs.Calendar.{emptyCalendar, calendarFits}
 use types.Run.{OneOf}
@@ -262,6 +262,23 @@ module _ (t : Table) (s : State) where
   pub accepted-record : recordRefusal t s ≡ 0 → (tableFits t ≡ true) × (stateFits t s ≡ true)
   unfolding recordRefusal stateRefusal
   accepted-record e = let r = first-is (tableRefusal t) _ e in (accepted-table t (r .0), unless-is (stateFits t s) StateRule (first-is (unless (stateFits t s) StateRule) [] (r .1) .0))
+
+-- ---- a judged step: the refusal of its records, or its own where there is none
+
+module _ (t : Table) (s : State) (x : Step) where
+  pub refusal-record : (recordRefusal t s ≡ 0 → ⊥) → refusal t s x ≡ recordRefusal t s
+  unfolding refusal recordRefusal
+  refusal-record n = elim (same? (tableRefusal t) 0) [
+    | inl e ↦ first-none (tableRefusal t) _ e ∙ first-some (stateRefusal t s) _ (λ z. n (first-none (tableRefusal t) _ e ∙ first-last (stateRefusal t s) ∙ z)) ∙ sym (first-none (tableRefusal t) _ e ∙ first-last (stateRefusal t s))
+    | inr e ↦ first-some (tableRefusal t) _ e ∙ sym (first-some (tableRefusal t) _ e)
+  ]
+
+  pub refusal-step : recordRefusal t s ≡ 0 → refusal t s x ≡ stepRefusal t s x
+  unfolding refusal recordRefusal
+  refusal-step e =
+      let a = first-is (tableRefusal t) _ e in
+      let b = first-is (stateRefusal t s) _ (a .1) in
+      first-none (tableRefusal t) _ (a .0) ∙ first-none (stateRefusal t s) _ (b .0) ∙ first-last (stepRefusal t s x)
 
 -- ---- the fresh state of a table
 

@@ -1,16 +1,16 @@
 -- The tests of a table and of a state say just what the conditions say.
 use mathlib.Core.Path.{_≡_, refl, sym, ap, _∙_}
-use mathlib.Core.Bool.{Bool, true, false, cond, not, _&&_}
-use mathlib.Core.Logic.{_⊎_, inl, inr}
+use mathlib.Core.Bool.{Bool, true, false, cond, not}
+use mathlib.Core.Logic.{inl, inr}
 use mathlib.Core.List.{List}
 use Prim.Native.Nat.{ℕ, zero, suc, _+_, _*_, _^_, _≤_, _<_}
 use native.Mathlib.Omega.{arith}
-use lib.Dec.{eqb, leb, ltb}
-use lib.ListN.{length, getD, List·getD-eq-default}
+use lib.Dec.{eqb, leb}
+use lib.ListN.{length, List·getD-eq-default}
 use borrow.Author.Tests.{eqb-true, eqb-false, ltb-true, leb-true, eq-eqb, ne-eqb, lt-ltb, le-leb, lt-leb, not-true}
 use lib.Pow.{le-ones, lt-of-le-ones}
 use Rattle.hearers.specs.Set.{has, everyone}
-use Rattle.hearers.proofs.Laws.{has-low, has-head, has-above, none-above, has-none}
+use Rattle.hearers.proofs.Laws.{has-head, has-above, none-above, has-none}
 use Rattle.rules.specs.declared.Phase.{Phase}
 use Rattle.rules.specs.declared.Phase.the-variants.{Init, Listen, Coldstart, Active}
 use Rattle.rules.specs.declared.Head.{Head}
@@ -18,12 +18,12 @@ use Rattle.rules.specs.declared.Calendar.{Calendar}
 use Rattle.rules.specs.declared.State.{State}
 use Rattle.rules.specs.declared.Table.{Table}
 use Rattle.rules.specs.Limits.{maxHeads, shortestSlot, longestSlot, latestWake, ceiling}
-use Rattle.rules.specs.Each.{between, every}
+use Rattle.rules.specs.Each.{between}
 use Rattle.rules.specs.Table.{isHead, wakeOf, numbersFit, wakeFits, tableFits}
 use Rattle.rules.specs.Calendar.{coldstartFrame, iFrame, quiet, hears, hearDue, emptyCalendar, allZero, frameFits, calendarFits}
 use Rattle.rules.specs.State.{noHead, headOf, timeoutOf, phaseNumber, phaseFits, headFits, isZero, placeFits, frontFits, stateFits}
 use Rattle.rules.specs.Conditions.{IsHead, TableMeets, Hears, FrameMeets, PhaseMeets, StateMeets}
-use Rattle.rules.proofs.Each.{same?, less?, and-true, both, either?, not-both, between-is, is-between, every-at, every-of}
+use Rattle.rules.proofs.Each.{same?, less?, and-true, both, between-is, is-between, every-at, every-of}
 
 -- ---- a table
 

@@ -1,8 +1,8 @@
 -- What the parts of a step do, head by head: head places, calendars, and the instants that the clock may come to.
 -- The theorems about steps, here and in other crates, cite these laws.
 use mathlib.Core.Path.{_≡_, refl, sym, ap, subst, _∙_}
-use mathlib.Core.Bool.{Bool, true, false, not, _&&_}
-use mathlib.Core.List.{List, [], _∷_}
+use mathlib.Core.Bool.{true, false, not, _&&_}
+use mathlib.Core.List.{List}
 use mathlib.Core.Logic.{_⊎_, inl, inr}
 use Prim.Native.Nat.{ℕ, zero, suc, _+_, _≤_}
 use native.Mathlib.Omega.{arith}
@@ -12,7 +12,7 @@ use lib.ListN.{length, length-set, List·getD-map}
 use lib.Seq.{getD-set-same, getD-set-other}
 use borrow.Author.Tests.{eqb-true, eqb-false, eq-eqb, ne-eqb, not-true}
 use Rattle.hearers.specs.Set.{has, without, everyone, allBut}
-use Rattle.hearers.proofs.Laws.{has-head, has-above, has-none, has-some, without-same, without-other, without-le, everyone-in}
+use Rattle.hearers.proofs.Laws.{has-head, has-above, has-some, without-same, without-other, without-le, everyone-in}
 use Rattle.rules.specs.declared.Phase.the-variants.{Init}
 use Rattle.rules.specs.declared.Head.{Head}
 use Rattle.rules.specs.declared.Calendar.{Calendar}

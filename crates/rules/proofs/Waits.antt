@@ -1,10 +1,8 @@
 -- How large the waits of a table can be: they fit thirty-two bits whatever the table holds, and stay small where it fits.
-use mathlib.Core.Path.{_≡_, refl}
-use Prim.Native.Nat.{ℕ, _+_, _-_, _*_, _≤_, _<_}
+use Prim.Native.Nat.{ℕ, _*_, _≤_}
 use native.Mathlib.Nat.{mul-le-mul}
 use native.Mathlib.Omega.{arith}
 use Rattle.rules.specs.declared.Table.{Table}
-use Rattle.rules.specs.Limits.{maxHeads, longestSlot}
 use Rattle.rules.specs.Table.{round, offset}
 use Rattle.rules.specs.State.{listenWait, coldstartWait}
 

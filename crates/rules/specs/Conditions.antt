@@ -7,7 +7,6 @@ use lib.ListN.{length}
 use Rattle.hearers.specs.Set.{has}
 use Rattle.rules.specs.declared.Phase.{Phase}
 use Rattle.rules.specs.declared.Phase.the-variants.{Init, Listen, Coldstart, Active}
-use Rattle.rules.specs.declared.Head.{Head}
 use Rattle.rules.specs.declared.Calendar.{Calendar}
 use Rattle.rules.specs.declared.State.{State}
 use Rattle.rules.specs.declared.Table.{Table}

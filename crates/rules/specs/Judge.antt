@@ -1,6 +1,6 @@
 -- Document 01, "Refusal numbers", the order for steps: "table record 3, state record 6, then 7; then 8, 9 or 10 by kind; then 11 or 13".
-use mathlib.Core.Bool.{Bool, true, cond, not, _&&_}
-use mathlib.Core.List.{List, [], _∷_}
+use mathlib.Core.Bool.{cond, not}
+use mathlib.Core.List.{[], _∷_}
 use Prim.Native.Nat.{ℕ}
 use lib.Dec.{eqb, leb}
 use Rattle.rules.specs.declared.State.{State}

@@ -1,5 +1,5 @@
 -- Document 01, "Steps": what each step does to a state, whether or not it is enabled.
-use mathlib.Core.Bool.{Bool, true, false, cond, _||_, _&&_}
+use mathlib.Core.Bool.{Bool, cond, _||_}
 use Prim.Native.Nat.{ℕ, zero, suc, _+_, _-_, min}
 use lib.Dec.{eqb, ltb}
 use Rattle.rules.specs.declared.Phase.{Phase}

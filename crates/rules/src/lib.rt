@@ -2,9 +2,9 @@
 // limits to the judged step. Code here is only what belongs to a kind itself: the limits, the two record checks, the fresh state,
 // the waits, a step read from its bytes. It uses hearers; everything else in the repository stands on it.
 mod calendars;
+mod pairs;
 mod refusals;
 mod states;
-mod steps;
 mod tables;
 
 // A head table: N heads, slots of S ticks, propagation P, and a wake tick for each head; wake places above N are zero.

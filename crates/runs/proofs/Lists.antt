@@ -5,19 +5,16 @@ use mathlib.Core.List.{List, [], _∷_, _++_}
 use Prim.Native.Nat.{ℕ, _≤_, _<_}
 use native.Mathlib.Omega.{arith}
 use lib.ListN.{length, take, drop}
-use borrow.Author.Tests.{le-leb, lt-leb}
 use Rattle.rules.specs.declared.State.{State}
 use Rattle.rules.specs.declared.Table.{Table}
 use Rattle.rules.specs.declared.Step.{Step}
 use Rattle.rules.specs.declared.Step.the-variants.{Advance}
 use Rattle.rules.specs.declared.Refusal.the-variants.{ShortRoom}
-use Rattle.rules.specs.Refusal.{numberOf, unless}
+use Rattle.rules.specs.Refusal.{numberOf}
 use Rattle.rules.specs.Table.{tableFits}
 use Rattle.rules.specs.State.{stateFits}
 use Rattle.rules.specs.Judge.{stepRefusal, recordRefusal}
-use Rattle.rules.proofs.Order.{is-unless, unless-not, first-some, first-none, first-last}
 use Rattle.rules.proofs.Meaning.{table-meets, state-meets}
-use borrow.Author.Tests.{ne-eqb}
 use Rattle.runs.specs.declared.listing.Pairs.{Pairs}
 use Rattle.runs.specs.Open.{onlyIf, openTo, openSteps, stepBytes}
 use Rattle.rules.specs.Room.{bytesWritten, roomAfter}

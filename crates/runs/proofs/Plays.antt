@@ -11,15 +11,14 @@ use borrow.Author.Tests.{ne-eqb}
 use Rattle.rules.specs.declared.State.{State}
 use Rattle.rules.specs.declared.Table.{Table}
 use Rattle.rules.specs.declared.Step.{Step}
-use Rattle.rules.specs.declared.Refusal.the-variants.{StateRule, NoSuchStep}
+use Rattle.rules.specs.declared.Refusal.the-variants.{NoSuchStep}
 use Rattle.rules.specs.Refusal.{numberOf}
-use Rattle.rules.specs.Table.{tableFits, tableRefusal}
-use Rattle.rules.specs.State.{stateFits, stateRefusal}
+use Rattle.rules.specs.Table.{tableFits}
+use Rattle.rules.specs.State.{stateFits}
 use Rattle.rules.specs.Step.{stepOf, moved}
 use Rattle.rules.specs.Judge.{stepRefusal, recordRefusal, refusal, judged}
 use Rattle.rules.proofs.Each.{same?}
-use Rattle.rules.proofs.Order.{is-unless, first-none, first-last}
-use Rattle.rules.proofs.Checks.{table-accepted, record-accepted, accepted-record}
+use Rattle.rules.proofs.Checks.{record-accepted, accepted-record, refusal-step}
 use Rattle.exact.proofs.Keeps.{accepted-moves}
 use Rattle.runs.specs.Run.{Outcome, stopped, runFrom, run}
 use Rattle.runs.specs.Claims.{Plays, plays-none, plays-lone, plays-refused, plays-accepted, RunPlays, RunKeeps, later, followed, RunInParts}
@@ -28,15 +27,9 @@ use Rattle.runs.proofs.Laws.{on-stops, on-goes, unfit, fit, moved-fits}
 -- ---- a table and a state that fit
 
 module _ (t : Table) (s : State) (f : tableFits t ≡ true) (g : stateFits t s ≡ true) where
-  state-none : stateRefusal t s ≡ 0
-  unfolding stateRefusal
-  state-none = is-unless (stateFits t s) StateRule g
-
   -- a step is refused by its own number
   step-alone : (x : Step) → refusal t s x ≡ stepRefusal t s x
-  unfolding refusal
-  step-alone x =
-      first-none (tableRefusal t) _ (sym (table-accepted t f)) ∙ first-none (stateRefusal t s) _ state-none ∙ first-last (stepRefusal t s x)
+  step-alone x = refusal-step t s x (sym (record-accepted t s f g))
 
   -- and a run is what it is without the record checks
   pub run-fit : (l : List ℕ) → run t s l ≡ runFrom t s 0 l

@@ -1,10 +1,9 @@
 -- Document 01, "Steps": "The step list holds all accepted steps, each once, as pairs: heads rising, timer before hear for one head; advance alone when nothing
 -- is due; empty when that advance would pass the ceiling."
-use mathlib.Core.Bool.{Bool, true, false, cond, _&&_}
+use mathlib.Core.Bool.{Bool, true, false, cond}
 use mathlib.Core.List.{List, [], _∷_, _++_}
 use Prim.Native.Nat.{ℕ, zero, suc}
-use lib.Dec.{eqb, leb}
-use Rattle.rules.specs.declared.Calendar.{Calendar}
+use lib.Dec.{leb}
 use Rattle.rules.specs.declared.State.{State}
 use Rattle.rules.specs.declared.Table.{Table}
 use Rattle.rules.specs.declared.Step.{Step}

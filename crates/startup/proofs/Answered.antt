@@ -1,5 +1,5 @@
 -- A run of given steps comes to the state of a run of accepted steps, so demand 3 holds of it; and a policy run is such a run.
-use mathlib.Core.Path.{_≡_, sym, ap, subst}
+use mathlib.Core.Path.{_≡_, sym, subst}
 use mathlib.Core.Bool.{true}
 use mathlib.Core.List.{List, [], _∷_, _++_}
 use Prim.Native.Nat.{ℕ, min}
@@ -13,7 +13,7 @@ use Rattle.rules.proofs.Meaning.{table-meets, meets-state}
 use Rattle.exact.proofs.Keeps.{fresh-meets}
 use Rattle.runs.specs.Open.{stepBytes}
 use Rattle.runs.specs.Run.{Outcome, run}
-use Rattle.runs.specs.Chosen.{longestRun, policy, chosen}
+use Rattle.runs.specs.Chosen.{longestRun, chosen}
 use Rattle.runs.specs.Claims.{Plays, plays-none, plays-lone, plays-refused, plays-accepted}
 use Rattle.runs.proofs.Plays.{run-plays}
 use Rattle.runs.proofs.Chooses.{policy-runs}

@@ -1,14 +1,14 @@
 -- The steps case by case and in the code's own terms: each return of a function cites one law.
 use mathlib.Core.Path.{_≡_, refl, sym, ap, subst, _∙_}
-use mathlib.Core.Bool.{Bool, true, false, cond, not, _&&_}
-use mathlib.Core.List.{List, [], _∷_}
-use Prim.Native.Nat.{ℕ, zero, suc, _+_, _-_, _*_, _≤_, _<_, min}
+use mathlib.Core.Bool.{true, false, not}
+use mathlib.Core.List.{List}
+use Prim.Native.Nat.{ℕ, zero, suc, _+_, _-_, _≤_, _<_}
 use native.Mathlib.Nat.{min-eq-left, min-eq-right, le-of-lt}
 use native.Mathlib.Numerals.{add-one}
 use native.Mathlib.Omega.{arith}
 use lib.Dec.{eqb, leb}
-use lib.ListN.{length, getD, set}
-use borrow.Author.Tests.{eq-eqb, ne-eqb, lt-ltb, le-ltb, lt-leb, le-leb, eqb-true, eqb-false}
+use lib.ListN.{getD, set}
+use borrow.Author.Tests.{eq-eqb, ne-eqb, lt-ltb, le-ltb, lt-leb, le-leb}
 use Rattle.hearers.specs.Set.{has, without, allBut}
 use Rattle.rules.specs.declared.Phase.{Phase}
 use Rattle.rules.specs.declared.Phase.the-variants.{Init, Listen, Coldstart, Active}
@@ -20,14 +20,13 @@ use Rattle.rules.specs.declared.Step.{Step}
 use Rattle.rules.specs.declared.Step.the-variants.{Advance, Timer, Hear}
 use Rattle.rules.specs.declared.Refusal.{Refusal}
 use Rattle.rules.specs.declared.Refusal.the-variants.{NoSuchStep, SomethingDue, TimerNotDue, NotHearing, PastCeiling, OwnFrame}
-use Rattle.rules.specs.Limits.{maxHeads, longestSlot, ceiling}
-use Rattle.rules.specs.Refusal.{numberOf, unless, firstOf}
-use Rattle.rules.specs.Table.{isHead, round, offset, tableFits}
-use Rattle.rules.specs.Calendar.{coldstartFrame, iFrame, quiet, hears, hearDue, emptyCalendar, settled, left, taken, send}
+use Rattle.rules.specs.Limits.{ceiling}
+use Rattle.rules.specs.Refusal.{numberOf, unless}
+use Rattle.rules.specs.Table.{isHead, tableFits}
+use Rattle.rules.specs.Calendar.{coldstartFrame, iFrame, hears, hearDue, emptyCalendar, settled, left, taken}
 use Rattle.rules.specs.State.{headIn, noHead, headOf, put, timeoutOf, phaseOf, listenWait, coldstartWait, stateFits}
 use Rattle.rules.specs.Step.{timerDue, due, leastTimeout, nextInstant, advance, slotAfter, timerHead, timerFrame, sends, timer, listenerWait, joined, hearHead, hear, moved}
 use Rattle.rules.specs.Judge.{nameRefusal, dueRefusal, lastRefusal, stepRefusal, stateAfter}
-use Rattle.rules.specs.Conditions.{TableMeets, StateMeets}
 use Rattle.rules.proofs.Order.{number-some, is-unless, unless-not, first-some, first-none, first-last, is-row}
 use Rattle.rules.proofs.Meaning.{table-meets, state-meets, is-quiet, not-quiet}
 use Rattle.rules.proofs.Waits.{coldstart-le}

@@ -2,7 +2,7 @@ use lib.ListN.{replicate}
 use Rattle.rules.specs.declared.Calendar.{Calendar}
 use Rattle.rules.specs.Limits.{maxHeads}
 use Rattle.rules.specs.State.{noHead}
-use mathlib.Core.Path.{_≡_, refl, sym, ap, _∙_}
+use mathlib.Core.Path.{ap}
 use borrow.Author.Needs.{needs}
 use Rattle.rules.proofs.State.blank.Statement.{statement}
 use Rattle.rules.proofs.State.blank.Tie as tie

@@ -1,4 +1,4 @@
-use mathlib.Core.Path.{_≡_, refl, sym, ap, _∙_}
+use mathlib.Core.Path.{_∙_}
 use Rattle.rules.proofs.Known.{state-places}
 use Rattle.rules.proofs.Order.{accepted-zero, refused-some}
 use Rattle.rules.proofs.Checks.{flag-no, flag-yes, accepted-table, record-table, record-state, record-accepted, state-no-front, state-no-heads, state-yes, front-clock}

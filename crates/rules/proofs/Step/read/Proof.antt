@@ -1,5 +1,4 @@
 use borrow.Author.Needs.{needs}
-use mathlib.Core.Path.{_≡_, refl, sym, ap, _∙_}
 use Rattle.rules.specs.Step.{stepOf}
 use Rattle.rules.proofs.Checks.{no-step}
 use Rattle.rules.proofs.Step.read.Statement.{statement}

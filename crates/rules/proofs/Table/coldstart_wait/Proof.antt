@@ -1,4 +1,3 @@
-use mathlib.Core.Path.{_≡_, refl, sym, ap, _∙_}
 use native.Mathlib.Omega.{arith}
 use Rattle.rules.proofs.Waits.{round-le, offset-le}
 use Rattle.rules.specs.State.{coldstartWait}

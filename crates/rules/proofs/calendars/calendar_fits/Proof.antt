@@ -1,4 +1,4 @@
-use mathlib.Core.Path.{_≡_, refl, sym, ap, _∙_}
+use mathlib.Core.Path.{sym, _∙_}
 use Rattle.rules.proofs.Meaning.{calendar-quiet, calendar-busy}
 use borrow.Author.Needs.{needs}
 use Rattle.rules.proofs.calendars.calendar_fits.Statement.{statement}

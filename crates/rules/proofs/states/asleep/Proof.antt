@@ -1,7 +1,7 @@
 use borrow.Author.Needs.{needs}
-use mathlib.Core.Path.{_≡_, refl, sym, ap, _∙_}
+use mathlib.Core.Path.{refl}
 use native.Mathlib.Omega.{arith}
-use Prim.Native.Nat.{ℕ, _+_, _-_, _≤_, _<_}
+use Prim.Native.Nat.{_-_, _≤_}
 use Rattle.rules.specs.Limits.{maxHeads}
 use Rattle.rules.proofs.Checks.{Asleep, asleep-more, asleep-all}
 use Rattle.rules.proofs.states.asleep.Statement.{statement}

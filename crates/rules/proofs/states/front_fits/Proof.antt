@@ -1,4 +1,4 @@
-use mathlib.Core.Path.{_≡_, refl, sym, ap, _∙_}
+use mathlib.Core.Path.{_∙_}
 use Rattle.rules.proofs.Checks.{front-late, front-count, front-calendar}
 use borrow.Author.Needs.{needs}
 use Rattle.rules.proofs.states.front_fits.Statement.{statement}

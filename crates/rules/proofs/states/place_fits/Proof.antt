@@ -1,4 +1,4 @@
-use mathlib.Core.Path.{_≡_, refl, sym, ap, _∙_}
+use mathlib.Core.Path.{sym, _∙_}
 use Rattle.rules.proofs.Meaning.{place-used, place-spare}
 use borrow.Author.Needs.{needs}
 use Rattle.rules.proofs.states.place_fits.Statement.{statement}

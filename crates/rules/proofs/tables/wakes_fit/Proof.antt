@@ -1,9 +1,9 @@
 use borrow.Author.Tests.{not-true, not-false}
 use Rattle.rules.proofs.Each.{every-done}
 use borrow.Author.Needs.{needs}
-use mathlib.Core.Path.{_≡_, refl, sym, ap, _∙_}
-use mathlib.Core.Bool.{true, false}
-use Prim.Native.Nat.{ℕ, _+_, _-_, _≤_, _<_}
+use mathlib.Core.Path.{_≡_, refl}
+use mathlib.Core.Bool.{true}
+use Prim.Native.Nat.{_-_, _≤_}
 use Rattle.rules.specs.Limits.{maxHeads}
 use Rattle.rules.specs.Each.{every}
 use Rattle.rules.specs.Table.{wakeOf, wakeFits}

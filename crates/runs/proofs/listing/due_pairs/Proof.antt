@@ -52,7 +52,7 @@ loop-less : tie.Need-loop-less Inv-loop μ-loop
 loop-less c = search needs
 
 loop-again : tie.Need-loop-again Inv-loop μ-loop
-loop-again c = (search needs, search needs, held-next _ _ _ _ (c .before .before .hear-due .ensures) (c .with-step2 .ensures _ (c .before .with-step .ensures _ (c .before .before .before .before .loop .inv .2))))
+loop-again c = (search needs, search needs, held-next _ (c .before .before .before .before .before .before .args .t1) _ _ (c .before .before .hear-due .ensures) (c .with-step2 .ensures _ (c .before .with-step .ensures _ (c .before .before .before .before .loop .inv .2))))
 
 returns : tie.Need-returns Inv-loop μ-loop
 returns c = let w = c .before .loop in let e : w .i ≡ c .before .before .before .args .n = omega arith in rw e at (w .inv .2)

@@ -1,4 +1,4 @@
-use Rattle.rules.specs.declared.Refusal.the-variants.{NoSuchStep, SomethingDue, TimerNotDue, NotHearing, PastCeiling, OwnFrame}
+use Rattle.rules.specs.declared.Refusal.the-variants.{SomethingDue, PastCeiling}
 use native.Mathlib.Omega.{arith}
 use Rattle.rules.proofs.Meaning.{table-meets}
 use Rattle.steps.proofs.Laws.{answer-refused, answer-accepted, advance-busy, advance-high, advance-open, advance-is}

@@ -1,4 +1,4 @@
-use Rattle.rules.specs.declared.Refusal.the-variants.{NoSuchStep, SomethingDue, TimerNotDue, NotHearing, PastCeiling, OwnFrame}
+use Rattle.rules.specs.declared.Refusal.the-variants.{NoSuchStep, NotHearing, OwnFrame}
 use native.Mathlib.Omega.{arith}
 use Rattle.rules.proofs.Meaning.{table-meets}
 use Rattle.rules.proofs.Checks.{flag-no, flag-yes, slot-low, slot-high, slot-in}

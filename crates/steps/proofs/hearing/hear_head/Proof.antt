@@ -1,4 +1,4 @@
-use mathlib.Core.Path.{_≡_, refl, sym, ap, _∙_}
+use mathlib.Core.Path.{_∙_}
 use native.Mathlib.Omega.{arith}
 use Rattle.steps.proofs.Laws.{listener-le, hear-init, hear-active, hear-follows, hear-listen, hear-coldstart}
 use borrow.Author.Needs.{needs}

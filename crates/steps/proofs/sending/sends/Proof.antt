@@ -1,4 +1,4 @@
-use mathlib.Core.Path.{_≡_, refl, sym, ap, _∙_}
+use mathlib.Core.Path.{sym, _∙_}
 use Rattle.rules.proofs.Moves.{sends-none, sends-some}
 use borrow.Author.Needs.{needs}
 use Rattle.steps.proofs.sending.sends.Statement.{statement}

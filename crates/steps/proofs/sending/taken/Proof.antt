@@ -1,4 +1,4 @@
-use mathlib.Core.Path.{_≡_, refl, sym, ap, _∙_}
+use mathlib.Core.Path.{_∙_}
 use Rattle.steps.proofs.Laws.{taken-is}
 use borrow.Author.Needs.{needs}
 use Rattle.steps.proofs.sending.taken.Statement.{statement}
