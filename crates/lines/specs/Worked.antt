@@ -17,6 +17,11 @@ unfoldable pub bytes : String → List ℕ
 bytes [] = none
 bytes (c ∷ s) = code c and bytes s
 
+-- what they print
+abbrev pub printed : List ℕ
+printed =
+    bytes "3 A 0 0 0 0\n3 T 1 1 0 43\n5 A 0 0 0 0\n5 T 2 1 0 55\n43 A 0 0 0 0\n43 T 1 2 0 63\n45 A 0 0 0 0\n45 H 2 2 0 75\n63 A 0 0 0 0\n63 T 1 2 0 83\n65 A 0 0 0 0\n65 H 2 3 1 73\n73 A 0 0 0 0\n73 T 2 3 2 83\n75 A 0 0 0 0\n75 H 1 3 2 83\n83 A 0 0 0 0\nEND 17 0\n"
+
 -- the line of a step that left its head in a phase, with a timeout
 abbrev pub shown : ℕ → Step → Phase → ℕ → List ℕ
 shown clock x p e = stepLine (record { clock = clock; n = 2; calendar = emptyCalendar; heads = headIn p e and (headIn p e and none) }) x
@@ -36,4 +41,4 @@ Worked =
     ++ advanced 73 ++ shown 73 (Timer 2) (Active 2) 83
     ++ advanced 75 ++ shown 75 (Hear 1) (Active 2) 83
     ++ advanced 83 ++ endLine 17 0
-    ≡ bytes "3 A 0 0 0 0\n3 T 1 1 0 43\n5 A 0 0 0 0\n5 T 2 1 0 55\n43 A 0 0 0 0\n43 T 1 2 0 63\n45 A 0 0 0 0\n45 H 2 2 0 75\n63 A 0 0 0 0\n63 T 1 2 0 83\n65 A 0 0 0 0\n65 H 2 3 1 73\n73 A 0 0 0 0\n73 T 2 3 2 83\n75 A 0 0 0 0\n75 H 1 3 2 83\n83 A 0 0 0 0\nEND 17 0\n"
+    ≡ printed

@@ -1,3 +1,4 @@
 pub mod Opens
 pub mod Widths
 pub mod Lays
+pub mod Worked
