@@ -5,11 +5,12 @@ use mathlib.Core.Logic.{inl, inr}
 use Prim.Native.Nat.{ℕ, _≤_}
 use native.Mathlib.Omega.{arith}
 use borrow.Author.Tests.{eqb-true, leb-true, eq-eqb, ne-eqb, le-leb, not-true}
+use Rattle.words.specs.declared.Step.{Step}
+use Rattle.words.specs.declared.Step.the-variants.{Advance, Timer, Hear}
+use Rattle.words.specs.declared.Refusal.the-variants.{TableRange, StateRule, NoSuchStep, SomethingDue, TimerNotDue, NotHearing, PastCeiling, OwnFrame}
+use Rattle.words.proofs.Order.{unless-is, is-unless, row-is, is-row, by-first, by-second, by-third, row-gives, unless-gives}
 use Rattle.rules.specs.declared.State.{State}
 use Rattle.rules.specs.declared.Table.{Table}
-use Rattle.rules.specs.declared.Step.{Step}
-use Rattle.rules.specs.declared.Step.the-variants.{Advance, Timer, Hear}
-use Rattle.rules.specs.declared.Refusal.the-variants.{TableRange, StateRule, NoSuchStep, SomethingDue, TimerNotDue, NotHearing, PastCeiling, OwnFrame}
 use Rattle.rules.specs.Limits.{ceiling}
 use Rattle.rules.specs.Table.{tableRefusal}
 use Rattle.rules.specs.State.{stateRefusal}
@@ -18,7 +19,6 @@ use Rattle.rules.specs.Judge.{nameRefusal, dueRefusal, lastRefusal, stepRefusal
 use Rattle.rules.specs.Conditions.{TableMeets, Hears, StateMeets, Least, Enabled}
 use Rattle.rules.proofs.Each.{either?, not-both}
 use Rattle.rules.proofs.Meaning.{head-is, is-head, hear-due-is, is-hear-due, table-meets, meets-table, state-meets, meets-state, hearer-waits}
-use Rattle.rules.proofs.Order.{unless-is, is-unless, row-is, is-row, by-first, by-second, by-third, row-gives, unless-gives}
 use Rattle.rules.proofs.Moves.{next-first, next-least, due-is, is-due}
 use Rattle.exact.specs.Claims.{AcceptedExactly, NeverOwnFrame, AdvanceLeast}
 

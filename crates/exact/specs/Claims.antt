@@ -1,12 +1,12 @@
 -- Demand 2, as claims about the definitions of rules.
 use mathlib.Core.Path.{_≡_}
 use mathlib.Core.Bool.{true}
+use Rattle.words.specs.declared.Step.{Step}
+use Rattle.words.specs.declared.Step.the-variants.{Advance}
+use Rattle.words.specs.declared.Refusal.the-variants.{OwnFrame}
+use Rattle.words.specs.Refusal.{numberOf}
 use Rattle.rules.specs.declared.State.{State}
 use Rattle.rules.specs.declared.Table.{Table}
-use Rattle.rules.specs.declared.Step.{Step}
-use Rattle.rules.specs.declared.Step.the-variants.{Advance}
-use Rattle.rules.specs.declared.Refusal.the-variants.{OwnFrame}
-use Rattle.rules.specs.Refusal.{numberOf}
 use Rattle.rules.specs.State.{stateFits, fresh}
 use Rattle.rules.specs.Step.{moved}
 use Rattle.rules.specs.Judge.{stepRefusal, refusal, judged}

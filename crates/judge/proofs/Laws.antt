@@ -2,9 +2,9 @@
 use mathlib.Core.Path.{_≡_, sym, ap, _∙_}
 use Prim.Native.Nat.{ℕ}
 use borrow.Author.Tests.{ne-eqb}
+use Rattle.words.specs.declared.Step.{Step}
 use Rattle.rules.specs.declared.State.{State}
 use Rattle.rules.specs.declared.Table.{Table}
-use Rattle.rules.specs.declared.Step.{Step}
 use Rattle.rules.specs.Judge.{stepRefusal, stateAfter, recordRefusal, refusal, judged}
 use Rattle.rules.proofs.Checks.{refusal-record, refusal-step}
 

@@ -1,13 +1,13 @@
 // A proposed step judged, for anybody: any table, any state, any step, given as the enum or as its two bytes. The record checks of
-// rules come first, then steps attempts the step; nothing is decided here. It uses rules and steps.
+// rules come first, then steps attempts the step; nothing is decided here. It uses words, rules and steps.
 use rules::Judged;
 use rules::State;
-use rules::Step;
 use rules::Table;
-use rules::Verdict;
+use words::Step;
+use words::Verdict;
 ghost use mathlib.Core.Path.{_≡_};
-ghost use Rattle.rules.specs.Refusal.{verdictNumber};
-ghost use Rattle.rules.specs.Step.{stepOf};
+ghost use Rattle.words.specs.Refusal.{verdictNumber};
+ghost use Rattle.words.specs.Pair.{stepOf};
 ghost use Rattle.rules.specs.Judge.{refusal, judged};
 
 // The next state of an accepted step, or the refusal and the state as it was given.

@@ -7,11 +7,11 @@ use Prim.Native.Nat.{ℕ, zero, suc, _+_, _-_, _*_, _/_, _≤_, _<_}
 use native.Mathlib.Omega.{arith}
 use lib.ListN.{length, getD, List·getD-append, length-append}
 use borrow.Author.Tests.{ne-eqb}
+use Rattle.words.specs.declared.Step.{Step}
+use Rattle.words.specs.declared.Step.the-variants.{Advance, Timer, Hear}
+use Rattle.words.specs.Pair.{headNumber}
 use Rattle.rules.specs.declared.State.{State}
-use Rattle.rules.specs.declared.Step.{Step}
-use Rattle.rules.specs.declared.Step.the-variants.{Advance, Timer, Hear}
 use Rattle.rules.specs.State.{phaseNumber, slotNumber, headOf, phaseOf, timeoutOf}
-use Rattle.rules.specs.Step.{headNumber}
 use Rattle.rules.specs.Each.{between}
 use Rattle.rules.proofs.Each.{less?, both, and-true, between-is, is-between}
 use Rattle.lines.specs.Decimal.{digit, decimal}

@@ -5,11 +5,11 @@ use Prim.Native.Nat.{ℕ, _+_, _-_, _≤_, _<_}
 use native.Mathlib.Omega.{arith}
 use lib.ListN.{length, set, length-append}
 use borrow.Author.Tests.{le-leb, lt-leb}
+use Rattle.words.specs.declared.Step.{Step}
+use Rattle.words.specs.Pair.{headNumber}
 use Rattle.rules.specs.declared.Head.{Head}
 use Rattle.rules.specs.declared.State.{State}
-use Rattle.rules.specs.declared.Step.{Step}
 use Rattle.rules.specs.State.{phaseNumber, slotNumber, headOf}
-use Rattle.rules.specs.Step.{headNumber}
 use Rattle.lines.specs.Decimal.{decimal}
 use Rattle.lines.specs.Line.{space, lf, lineOf, letterOf, rowLine, stepLine, endLine}
 use Rattle.lines.specs.Room.{over, wrote, roomAfter}

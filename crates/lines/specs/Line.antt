@@ -1,11 +1,11 @@
 -- Document 01, "The `walk` listing": the bytes of its lines.
 use mathlib.Core.List.{List, [], _∷_, _++_}
 use Prim.Native.Nat.{ℕ}
+use Rattle.words.specs.declared.Step.{Step}
+use Rattle.words.specs.declared.Step.the-variants.{Advance, Timer, Hear}
+use Rattle.words.specs.Pair.{headNumber}
 use Rattle.rules.specs.declared.State.{State}
-use Rattle.rules.specs.declared.Step.{Step}
-use Rattle.rules.specs.declared.Step.the-variants.{Advance, Timer, Hear}
 use Rattle.rules.specs.State.{phaseNumber, slotNumber, phaseOf, timeoutOf}
-use Rattle.rules.specs.Step.{headNumber}
 use Rattle.lines.specs.Decimal.{decimal}
 
 abbrev pub space : ℕ

@@ -4,10 +4,10 @@ use mathlib.Core.List.{List, _++_, [] as none, _∷_ as _and_}
 use Prim.Native.Nat.{ℕ}
 use Prim.Native.Char.{code}
 use Prim.Native.String.{String, [], _∷_}
+use Rattle.words.specs.declared.Step.{Step}
+use Rattle.words.specs.declared.Step.the-variants.{Advance, Timer, Hear}
 use Rattle.rules.specs.declared.Phase.{Phase}
 use Rattle.rules.specs.declared.Phase.the-variants.{Listen, Coldstart, Active}
-use Rattle.rules.specs.declared.Step.{Step}
-use Rattle.rules.specs.declared.Step.the-variants.{Advance, Timer, Hear}
 use Rattle.rules.specs.Calendar.{emptyCalendar}
 use Rattle.rules.specs.State.{headIn}
 use Rattle.lines.specs.Line.{stepLine, endLine}

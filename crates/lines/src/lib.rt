@@ -1,15 +1,15 @@
 // The lines of the walk listing of document 01, in bytes: a line for an accepted step and the END line, put into room that the
-// caller lends, whole or not at all. What a line holds is said in specs/, byte by byte. It uses the types and definitions of rules,
-// and no input or output.
+// caller lends, whole or not at all. What a line holds is said in specs/, byte by byte. It uses the types and definitions of
+// words and rules, and no input or output.
 use rules::Head;
 use rules::Phase;
 use rules::State;
-use rules::Step;
+use words::Step;
 ghost use mathlib.Core.Path.{_≡_};
 ghost use mathlib.Core.List.{[], _∷_, _++_};
 ghost use Prim.Native.Nat.{_+_, _≤_, _<_};
 ghost use lib.ListN.{length};
-ghost use Rattle.rules.specs.State.{phaseNumber, slotNumber, noHead, headOf};
+ghost use Rattle.rules.specs.State.{noHead, headOf};
 ghost use Rattle.lines.specs.Decimal.{decimal};
 ghost use Rattle.lines.specs.Line.{letterOf, rowLine, stepLine, endLine};
 ghost use Rattle.lines.specs.Room.{over, wrote, roomAfter};
@@ -32,8 +32,8 @@ pub fn put_step(room: &mut [u8], at: usize, s: State, x: Step) -> usize
         s.clock,
         letter(x),
         i,
-        phase_number(ph),
-        slot_number(ph),
+        ph.number(),
+        ph.slot(),
         h.timeout,
     )
 }
@@ -155,27 +155,5 @@ fn letter(x: Step) -> u8
         Step::Advance => b'A',
         Step::Timer(_) => b'T',
         Step::Hear(_) => b'H',
-    }
-}
-
-fn phase_number(p: Phase) -> u8
-    ensures { λ r. ⌜ r ≡ phaseNumber p ⌝ }
-{
-    match p {
-        Phase::Init => 0,
-        Phase::Listen => 1,
-        Phase::Coldstart => 2,
-        Phase::Active(_) => 3,
-    }
-}
-
-fn slot_number(p: Phase) -> u8
-    ensures { λ r. ⌜ r ≡ slotNumber p ⌝ }
-{
-    match p {
-        Phase::Init => 0,
-        Phase::Listen => 0,
-        Phase::Coldstart => 0,
-        Phase::Active(k) => k,
     }
 }

@@ -10,18 +10,18 @@ use lib.Dec.{eqb, leb}
 use lib.ListN.{length, getD, set, length-set, length-map, List·getD-map}
 use lib.Seq.{getD-set-same, getD-set-other, ext-getD}
 use borrow.Author.Tests.{leb-true, le-leb, lt-leb, eq-eqb, ne-eqb, not-true, not-false}
+use Rattle.words.specs.declared.Step.{Step}
+use Rattle.words.specs.declared.Refusal.the-variants.{TableRange, StateRule}
+use Rattle.words.specs.Refusal.{numberOf, unless}
+use Rattle.words.proofs.Order.{unless-is, is-unless, unless-not, first-is, first-some, first-none, first-last}
 use Rattle.rules.specs.declared.Phase.{Phase}
 use Rattle.rules.specs.declared.Phase.the-variants.{Init, Listen, Coldstart, Active}
 use Rattle.rules.specs.declared.Head.{Head}
 use Rattle.rules.specs.declared.State.{State}
 use Rattle.rules.specs.declared.Table.{Table}
-use Rattle.rules.specs.declared.Step.{Step}
-use Rattle.rules.specs.declared.Step.the-variants.{Timer}
 use Rattle.rules.specs.Limits.{maxHeads, ceiling}
 use Rattle.rules.specs.Each.{every}
 use Rattle.rules.specs.declared.Calendar.{Calendar}
-use Rattle.rules.specs.declared.Refusal.the-variants.{TableRange, StateRule}
-use Rattle.rules.specs.Refusal.{numberOf, unless}
 use Rattle.rules.specs.Judge.{stepRefusal, recordRefusal, refusal}
 use Rattle.rules.specs.Table.{isHead, wakeOf, numbersFit, wakeFits, tableFits, tableRefusal}
 use Rattle.rules.specs.Calendar.{emptyCalendar, calendarFits}
@@ -29,9 +29,7 @@ use types.Run.{OneOf}
 use denote.Enum.Declared.{tagOf}
 use Rattle.rules.proofs.Phase.{the-type}
 use Rattle.rules.specs.State.{headIn, noHead, headOf, phaseNumber, isZero, listenWait, coldstartWait, phaseFits, headFits, placeFits, frontFits, stateFits, stateRefusal, blank, fresh, freshOrBlank}
-use Rattle.rules.specs.Step.{stepOf}
 use Rattle.rules.proofs.Each.{same?, both, and-true, either?, no, not-both, every-more, every-fails}
-use Rattle.rules.proofs.Order.{unless-is, is-unless, unless-not, first-is, first-some, first-none, first-last}
 use Rattle.rules.proofs.Meaning.{table-meets, meet-numbers}
 
 -- the flag of a test that is negated
@@ -182,16 +180,6 @@ pub asleep-all : (t : Table) (k : ℕ) (hs : List Head) → length (t .wakes) �
 asleep-all t k hs w l a =
     ext-getD noHead hs (map (headIn Init) (t .wakes)) (a .places ∙ sym w ∙ sym (length-map (t .wakes) (headIn Init)))
     (λ j m. a .so-far j (let p = a .places in omega arith) ∙ sym (List·getD-map (headIn Init) (t .wakes) j 0))
-
--- ---- a pair that names no step
-
-pub no-step : (kind i : ℕ) → (kind ≡ 1 → ⊥) → (kind ≡ 2 → ⊥) → (kind ≡ 0 → i ≡ 0 → ⊥) → Timer 0 ≡ stepOf kind i
-unfolding stepOf
-no-step zero zero a b f = absurd (f refl refl)
-no-step zero (suc i) a b f = refl
-no-step (suc zero) i a b f = absurd (a refl)
-no-step (suc (suc zero)) i a b f = absurd (b refl)
-no-step (suc (suc (suc kind))) i a b f = refl
 
 -- ---- the verdict on a table
 

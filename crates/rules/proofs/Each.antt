@@ -1,4 +1,4 @@
--- Laws of the tests over heads 1 to N, of a row of tests, and of the first refusal of a row.
+-- Laws of the tests over heads 1 to N, and of tests joined by "and" and "or".
 use mathlib.Core.Path.{_≡_, refl, sym, _∙_}
 use mathlib.Core.Bool.{Bool, true, false, _&&_, _||_}
 use mathlib.Core.Logic.{_⊎_, inl, inr}

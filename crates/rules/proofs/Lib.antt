@@ -1,5 +1,4 @@
 pub mod Each
-pub mod Order
 pub mod Meaning
 pub mod Waits
 pub mod Checks

@@ -5,10 +5,10 @@ use Prim.Native.Nat.{ℕ, _≤_, _<_}
 use native.Mathlib.Omega.{arith}
 use lib.ListN.{length, drop}
 use borrow.Author.Tests.{ne-eqb, le-leb, lt-leb}
-use Rattle.rules.specs.declared.Refusal.the-variants.{ShortRoom}
-use Rattle.rules.specs.Refusal.{numberOf, unless, firstOf}
+use Rattle.words.specs.declared.Refusal.the-variants.{ShortRoom}
+use Rattle.words.specs.Refusal.{numberOf, unless, firstOf}
+use Rattle.words.proofs.Order.{first-some}
 use Rattle.rules.specs.Room.{writeRefusal, bytesWritten, roomAfter}
-use Rattle.rules.proofs.Order.{first-some}
 
 module _ (unfit : ℕ) (image room : List ℕ) where
   pub write-unfit : (unfit ≡ 0 → ⊥) → unfit ≡ writeRefusal unfit image room

@@ -2,11 +2,11 @@
 use mathlib.Core.Path.{_≡_, sym, _∙_}
 use Prim.Native.Nat.{ℕ}
 use borrow.Fn.Kinds as K
+use Rattle.words.specs.Refusal.{verdictNumber}
+use Rattle.words.proofs.Order.{verdict-one}
 use Rattle.rules.specs.declared.State.{State}
 use Rattle.rules.specs.declared.Judged.{Judged}
 use Rattle.rules.specs.declared.Written.{Written}
-use Rattle.rules.specs.Refusal.{verdictNumber}
-use Rattle.rules.proofs.Order.{verdict-one}
 use Rattle.rules.proofs.Table.check.Reads as table-check
 use Rattle.rules.proofs.Table.check.Kinds as table-check-kinds
 use Rattle.rules.proofs.State.check.Reads as state-check
@@ -19,16 +19,10 @@ use Rattle.rules.proofs.Calendar.empty.Reads as calendar-empty
 use Rattle.rules.proofs.Calendar.empty.Kinds as calendar-empty-kinds
 use Rattle.rules.proofs.Calendar.waiting.Reads as calendar-waiting
 use Rattle.rules.proofs.Calendar.waiting.Kinds as calendar-waiting-kinds
-use Rattle.rules.proofs.Refusal.number.Reads as refusal-number
-use Rattle.rules.proofs.Refusal.number.Kinds as refusal-number-kinds
-use Rattle.rules.proofs.Verdict.number.Reads as verdict-number
-use Rattle.rules.proofs.Verdict.number.Kinds as verdict-number-kinds
-use Rattle.rules.proofs.Step.read.Reads as step-read
-use Rattle.rules.proofs.Step.read.Kinds as step-read-kinds
-use Rattle.rules.proofs.Step.kind.Reads as step-kind
-use Rattle.rules.proofs.Step.kind.Kinds as step-kind-kinds
-use Rattle.rules.proofs.Step.head.Reads as step-head
-use Rattle.rules.proofs.Step.head.Kinds as step-head-kinds
+use Rattle.rules.proofs.Phase.number.Reads as phase-number
+use Rattle.rules.proofs.Phase.number.Kinds as phase-number-kinds
+use Rattle.rules.proofs.Phase.slot.Reads as phase-slot
+use Rattle.rules.proofs.Phase.slot.Kinds as phase-slot-kinds
 
 -- a verdict's number and a state make one answer
 pub judged-one : (r q : Judged) {n : ℕ} {s : State} → (verdictNumber (r .verdict) ≡ n) × (r .state ≡ s) → (verdictNumber (q .verdict) ≡ n) × (q .state ≡ s) → r ≡ q
@@ -56,17 +50,8 @@ calendar-empty-one a r q s u p e = p ∙ sym e
 pub calendar-waiting-one : (a : K.Dens tt calendar-waiting-kinds.ps) (r q : _) (s u : _) → calendar-waiting.Post tt a r s → calendar-waiting.Post tt a q u → r ≡ q
 calendar-waiting-one a r q s u p e = p ∙ sym e
 
-pub refusal-number-one : (a : K.Dens tt refusal-number-kinds.ps) (r q : _) (s u : _) → refusal-number.Post tt a r s → refusal-number.Post tt a q u → r ≡ q
-refusal-number-one a r q s u p e = p ∙ sym e
+pub phase-number-one : (a : K.Dens tt phase-number-kinds.ps) (r q : _) (s u : _) → phase-number.Post tt a r s → phase-number.Post tt a q u → r ≡ q
+phase-number-one a r q s u p e = p ∙ sym e
 
-pub verdict-number-one : (a : K.Dens tt verdict-number-kinds.ps) (r q : _) (s u : _) → verdict-number.Post tt a r s → verdict-number.Post tt a q u → r ≡ q
-verdict-number-one a r q s u p e = p ∙ sym e
-
-pub step-read-one : (a : K.Dens tt step-read-kinds.ps) (r q : _) (s u : _) → step-read.Post tt a r s → step-read.Post tt a q u → r ≡ q
-step-read-one a r q s u p e = p ∙ sym e
-
-pub step-kind-one : (a : K.Dens tt step-kind-kinds.ps) (r q : _) (s u : _) → step-kind.Post tt a r s → step-kind.Post tt a q u → r ≡ q
-step-kind-one a r q s u p e = p ∙ sym e
-
-pub step-head-one : (a : K.Dens tt step-head-kinds.ps) (r q : _) (s u : _) → step-head.Post tt a r s → step-head.Post tt a q u → r ≡ q
-step-head-one a r q s u p e = p ∙ sym e
+pub phase-slot-one : (a : K.Dens tt phase-slot-kinds.ps) (r q : _) (s u : _) → phase-slot.Post tt a r s → phase-slot.Post tt a q u → r ≡ q
+phase-slot-one a r q s u p e = p ∙ sym e

@@ -3,13 +3,13 @@ use mathlib.Core.Bool.{cond, not}
 use mathlib.Core.List.{[], _∷_}
 use Prim.Native.Nat.{ℕ}
 use lib.Dec.{eqb, leb}
+use Rattle.words.specs.declared.Step.{Step}
+use Rattle.words.specs.declared.Step.the-variants.{Advance, Timer, Hear}
+use Rattle.words.specs.declared.Refusal.the-variants.{NoSuchStep, SomethingDue, TimerNotDue, NotHearing, PastCeiling, OwnFrame}
+use Rattle.words.specs.Refusal.{unless, firstOf}
 use Rattle.rules.specs.declared.State.{State}
 use Rattle.rules.specs.declared.Table.{Table}
-use Rattle.rules.specs.declared.Step.{Step}
-use Rattle.rules.specs.declared.Step.the-variants.{Advance, Timer, Hear}
-use Rattle.rules.specs.declared.Refusal.the-variants.{NoSuchStep, SomethingDue, TimerNotDue, NotHearing, PastCeiling, OwnFrame}
 use Rattle.rules.specs.Limits.{ceiling}
-use Rattle.rules.specs.Refusal.{unless, firstOf}
 use Rattle.rules.specs.Table.{isHead, tableRefusal}
 use Rattle.rules.specs.Calendar.{hearDue}
 use Rattle.rules.specs.State.{stateRefusal}

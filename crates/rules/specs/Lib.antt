@@ -1,6 +1,5 @@
 pub mod Each
 pub mod Limits
-pub mod Refusal
 pub mod Table
 pub mod Calendar
 pub mod State

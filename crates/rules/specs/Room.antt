@@ -4,8 +4,8 @@ use mathlib.Core.List.{List, [], _∷_, _++_}
 use Prim.Native.Nat.{ℕ}
 use lib.Dec.{eqb, leb}
 use lib.ListN.{length, drop}
-use Rattle.rules.specs.declared.Refusal.the-variants.{ShortRoom}
-use Rattle.rules.specs.Refusal.{unless, firstOf}
+use Rattle.words.specs.declared.Refusal.the-variants.{ShortRoom}
+use Rattle.words.specs.Refusal.{unless, firstOf}
 
 -- "Writers and the step list: 3, 6 where a state is given, then 12": the refusal of what is given, then "12: room shorter than the image or step list"
 unfoldable pub writeRefusal : ℕ → List ℕ → List ℕ → ℕ

@@ -4,15 +4,15 @@ use mathlib.Core.List.{List, map}
 use Prim.Native.Nat.{ℕ, zero, suc, _+_, _*_}
 use lib.Dec.{eqb, leb}
 use lib.ListN.{length, getD, set, replicate}
+use Rattle.words.specs.declared.Refusal.the-variants.{StateRule}
+use Rattle.words.specs.Refusal.{unless}
 use Rattle.rules.specs.declared.Phase.{Phase}
 use Rattle.rules.specs.declared.Phase.the-variants.{Init, Listen, Coldstart, Active}
 use Rattle.rules.specs.declared.Head.{Head}
 use Rattle.rules.specs.declared.State.{State}
 use Rattle.rules.specs.declared.Table.{Table}
-use Rattle.rules.specs.declared.Refusal.the-variants.{StateRule}
 use Rattle.rules.specs.Each.{every}
 use Rattle.rules.specs.Limits.{maxHeads, ceiling}
-use Rattle.rules.specs.Refusal.{unless}
 use Rattle.rules.specs.Table.{isHead, round, offset, wakeOf, tableFits}
 use Rattle.rules.specs.Calendar.{emptyCalendar, calendarFits}
 

@@ -2,37 +2,17 @@
 use mathlib.Core.Bool.{Bool, cond, _||_}
 use Prim.Native.Nat.{ℕ, zero, suc, _+_, _-_, min}
 use lib.Dec.{eqb, ltb}
+use Rattle.words.specs.declared.Step.{Step}
+use Rattle.words.specs.declared.Step.the-variants.{Advance, Timer, Hear}
 use Rattle.rules.specs.declared.Phase.{Phase}
 use Rattle.rules.specs.declared.Phase.the-variants.{Init, Listen, Coldstart, Active}
 use Rattle.rules.specs.declared.Head.{Head}
 use Rattle.rules.specs.declared.Calendar.{Calendar}
 use Rattle.rules.specs.declared.State.{State}
 use Rattle.rules.specs.declared.Table.{Table}
-use Rattle.rules.specs.declared.Step.{Step}
-use Rattle.rules.specs.declared.Step.the-variants.{Advance, Timer, Hear}
 use Rattle.rules.specs.Each.{some}
 use Rattle.rules.specs.Calendar.{coldstartFrame, iFrame, quiet, left, send, deliveryDue}
 use Rattle.rules.specs.State.{headIn, headOf, put, phaseOf, timeoutOf, listenWait, coldstartWait}
-
--- ---- "In bytes it is a pair: 0,0 advance; 1,i timer; 2,i hear."
-
-abbrev pub kindOf : Step → ℕ
-kindOf Advance = 0
-kindOf (Timer i) = 1
-kindOf (Hear i) = 2
-
-abbrev pub headNumber : Step → ℕ
-headNumber Advance = 0
-headNumber (Timer i) = i
-headNumber (Hear i) = i
-
--- the step that a pair names; any other pair is read as the timer of head 0, which no table has
-unfoldable pub stepOf : ℕ → ℕ → Step
-stepOf zero zero = Advance
-stepOf zero (suc i) = Timer 0
-stepOf (suc zero) i = Timer i
-stepOf (suc (suc zero)) i = Hear i
-stepOf (suc (suc (suc kind))) i = Timer 0
 
 -- ---- due, and the next instant
 

@@ -3,11 +3,11 @@ use mathlib.Core.Bool.{Bool, cond, _&&_}
 use Prim.Native.Nat.{ℕ, zero, suc, _-_, _*_}
 use lib.Dec.{eqb, leb, ltb}
 use lib.ListN.{length, getD}
+use Rattle.words.specs.declared.Refusal.the-variants.{TableRange}
+use Rattle.words.specs.Refusal.{unless}
 use Rattle.rules.specs.declared.Table.{Table}
-use Rattle.rules.specs.declared.Refusal.the-variants.{TableRange}
 use Rattle.rules.specs.Each.{between, every}
 use Rattle.rules.specs.Limits.{maxHeads, shortestSlot, longestSlot, latestWake}
-use Rattle.rules.specs.Refusal.{unless}
 
 -- "N heads are numbered 1 to N."
 unfoldable pub isHead : Table → ℕ → Bool

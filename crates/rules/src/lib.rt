@@ -1,11 +1,12 @@
-// What document 01 speaks of: tables, states, steps and refusals as types, and in specs/ every definition over them, from the
-// limits to the judged step. Code here is only what belongs to a kind itself: the limits, the two record checks, the fresh state,
-// the waits, a step read from its bytes. It uses hearers; everything else in the repository stands on it.
+// What document 01 speaks of: tables and states as types, and in specs/ every definition over them, from the limits to the judged
+// step. Code here is only what belongs to a kind itself: the limits, the two record checks, the fresh state, the waits, a phase's
+// two numbers. It uses words and hearers; everything else in the repository stands on it.
 mod calendars;
-mod pairs;
-mod refusals;
+mod phases;
 mod states;
 mod tables;
+
+use words::Verdict;
 
 // A head table: N heads, slots of S ticks, propagation P, and a wake tick for each head; wake places above N are zero.
 pub struct Table {
@@ -44,35 +45,6 @@ pub struct State {
     pub n: u8,
     pub calendar: Calendar,
     pub heads: [Head; 64],
-}
-
-// A proposed step.
-pub enum Step {
-    Advance,
-    Timer(u8),
-    Hear(u8),
-}
-
-// Why something is refused: one case for each number of document 01.
-pub enum Refusal {
-    TableLength,
-    TableMark,
-    TableRange,
-    StateLength,
-    StateMark,
-    StateRule,
-    NoSuchStep,
-    SomethingDue,
-    TimerNotDue,
-    NotHearing,
-    PastCeiling,
-    ShortRoom,
-    OwnFrame,
-}
-
-pub enum Verdict {
-    Accepted,
-    Refused(Refusal),
 }
 
 // A verdict beside a state: the next state where it accepts.

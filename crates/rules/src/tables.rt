@@ -1,13 +1,13 @@
 // A head table: its limits, whether its record fits, and the waits that its numbers give.
-use crate::Refusal;
 use crate::State;
 use crate::Table;
-use crate::Verdict;
+use words::Refusal;
+use words::Verdict;
 ghost use mathlib.Core.Path.{_≡_};
 ghost use Prim.Native.Nat.{_+_, _≤_};
+ghost use Rattle.words.specs.Refusal.{verdictNumber};
 ghost use Rattle.rules.specs.Each.{every};
 ghost use Rattle.rules.specs.Limits.{maxHeads};
-ghost use Rattle.rules.specs.Refusal.{verdictNumber};
 ghost use Rattle.rules.specs.Table.{round, offset, wakeOf, numbersFit, wakeFits, tableRefusal};
 ghost use Rattle.rules.specs.State.{listenWait, coldstartWait};
 

@@ -5,13 +5,14 @@ use mathlib.Core.List.{List, [], _∷_, List·Memᴰ, List·Memᴰ·head}
 use mathlib.Core.Logic.{inl, inr}
 use Prim.Native.Nat.{ℕ, zero, suc, _+_, _≤_, _<_, min}
 use native.Mathlib.Omega.{arith}
+use Rattle.words.specs.declared.Step.{Step}
+use Rattle.words.specs.declared.Step.the-variants.{Advance, Timer, Hear}
+use Rattle.words.specs.Pair.{kindOf, headNumber, stepOf}
 use Rattle.rules.specs.declared.State.{State}
 use Rattle.rules.specs.declared.Table.{Table}
-use Rattle.rules.specs.declared.Step.{Step}
-use Rattle.rules.specs.declared.Step.the-variants.{Advance, Timer, Hear}
 use Rattle.rules.specs.Table.{tableFits}
 use Rattle.rules.specs.State.{stateFits}
-use Rattle.rules.specs.Step.{kindOf, headNumber, stepOf, moved}
+use Rattle.rules.specs.Step.{moved}
 use Rattle.rules.specs.Judge.{stepRefusal, recordRefusal}
 use Rattle.rules.proofs.Each.{same?}
 use Rattle.rules.proofs.Meaning.{table-meets, state-meets}

@@ -8,11 +8,12 @@ use native.Mathlib.Omega.{arith}
 use lib.Dec.{eqb}
 use lib.ListN.{length, getD, set, take, drop, replicate, length-append, length-take, length-set, length-replicate}
 use lib.Seq.{sets-eq, take-at, take-suc, drop-cons, set-at, append-snoc, length-take-le}
+use Rattle.words.specs.declared.Step.{Step}
+use Rattle.words.specs.declared.Step.the-variants.{Timer, Hear}
+use Rattle.words.specs.Pair.{kindOf, headNumber}
 use Rattle.rules.specs.declared.State.{State}
-use Rattle.rules.specs.declared.Step.{Step}
-use Rattle.rules.specs.declared.Step.the-variants.{Timer, Hear}
 use Rattle.rules.specs.State.{noHead, headOf}
-use Rattle.rules.specs.Step.{kindOf, headNumber, timerDue}
+use Rattle.rules.specs.Step.{timerDue}
 use Rattle.runs.specs.declared.listing.Pairs.{Pairs}
 use Rattle.rules.specs.Calendar.{hearDue}
 use Rattle.runs.specs.Open.{onlyIf, openAt, openTo, stepBytes}

@@ -11,17 +11,18 @@ use lib.ListN.{length, getD, drop, drop-of-length-le}
 use lib.Seq.{drop-cons}
 use borrow.Author.Tests.{eq-eqb, ne-eqb}
 use Rattle.hearers.specs.Set.{has}
+use Rattle.words.specs.declared.Step.{Step}
+use Rattle.words.specs.declared.Step.the-variants.{Advance, Timer, Hear}
+use Rattle.words.specs.declared.Refusal.the-variants.{NoSuchStep}
+use Rattle.words.specs.Refusal.{numberOf}
+use Rattle.words.specs.Pair.{stepOf}
 use Rattle.rules.specs.declared.Calendar.{Calendar}
 use Rattle.rules.specs.declared.State.{State}
 use Rattle.rules.specs.declared.Table.{Table}
-use Rattle.rules.specs.declared.Step.{Step}
-use Rattle.rules.specs.declared.Step.the-variants.{Advance, Timer, Hear}
-use Rattle.rules.specs.declared.Refusal.the-variants.{NoSuchStep}
-use Rattle.rules.specs.Refusal.{numberOf}
 use Rattle.rules.specs.Table.{tableFits}
 use Rattle.rules.specs.Calendar.{hears}
 use Rattle.rules.specs.State.{noHead, headOf, stateFits}
-use Rattle.rules.specs.Step.{stepOf, timerDue, moved}
+use Rattle.rules.specs.Step.{timerDue, moved}
 use Rattle.rules.specs.Judge.{stepRefusal, stateAfter, recordRefusal}
 use Rattle.rules.proofs.Meaning.{table-meets, state-meets, meets-state}
 use Rattle.exact.proofs.Keeps.{keeps}

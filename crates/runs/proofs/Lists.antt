@@ -5,12 +5,12 @@ use mathlib.Core.List.{List, [], _∷_, _++_}
 use Prim.Native.Nat.{ℕ, _≤_, _<_}
 use native.Mathlib.Omega.{arith}
 use lib.ListN.{length, take, drop}
+use Rattle.words.specs.declared.Step.{Step}
+use Rattle.words.specs.declared.Step.the-variants.{Advance}
+use Rattle.words.specs.declared.Refusal.the-variants.{ShortRoom}
+use Rattle.words.specs.Refusal.{numberOf}
 use Rattle.rules.specs.declared.State.{State}
 use Rattle.rules.specs.declared.Table.{Table}
-use Rattle.rules.specs.declared.Step.{Step}
-use Rattle.rules.specs.declared.Step.the-variants.{Advance}
-use Rattle.rules.specs.declared.Refusal.the-variants.{ShortRoom}
-use Rattle.rules.specs.Refusal.{numberOf}
 use Rattle.rules.specs.Table.{tableFits}
 use Rattle.rules.specs.State.{stateFits}
 use Rattle.rules.specs.Judge.{stepRefusal, recordRefusal}

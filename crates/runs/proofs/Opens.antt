@@ -7,14 +7,15 @@ use Prim.Native.Nat.{ℕ, zero, suc, _≤_}
 use native.Mathlib.Omega.{arith}
 use lib.Dec.{eqb, leb}
 use borrow.Author.Tests.{eqb-true, leb-true, eq-eqb, le-leb, lt-leb}
+use Rattle.words.specs.declared.Step.{Step}
+use Rattle.words.specs.declared.Step.the-variants.{Advance, Timer, Hear}
+use Rattle.words.specs.Pair.{headNumber}
 use Rattle.rules.specs.declared.State.{State}
 use Rattle.rules.specs.declared.Table.{Table}
-use Rattle.rules.specs.declared.Step.{Step}
-use Rattle.rules.specs.declared.Step.the-variants.{Advance, Timer, Hear}
 use Rattle.rules.specs.Limits.{ceiling}
 use Rattle.rules.specs.Calendar.{hears}
 use Rattle.rules.specs.State.{timeoutOf}
-use Rattle.rules.specs.Step.{headNumber, timerDue, due, nextInstant}
+use Rattle.rules.specs.Step.{timerDue, due, nextInstant}
 use Rattle.rules.specs.Judge.{stepRefusal}
 use Rattle.rules.specs.Conditions.{TableMeets, Hears, StateMeets, Due, a-timer, a-delivery, Enabled}
 use Rattle.rules.proofs.Each.{same?, less?, and-true, both, either?, not-both}

@@ -8,14 +8,15 @@ use native.Mathlib.Numerals.{one-add}
 use native.Mathlib.Omega.{arith}
 use lib.ListN.{length}
 use borrow.Author.Tests.{ne-eqb}
+use Rattle.words.specs.declared.Step.{Step}
+use Rattle.words.specs.declared.Refusal.the-variants.{NoSuchStep}
+use Rattle.words.specs.Refusal.{numberOf}
+use Rattle.words.specs.Pair.{stepOf}
 use Rattle.rules.specs.declared.State.{State}
 use Rattle.rules.specs.declared.Table.{Table}
-use Rattle.rules.specs.declared.Step.{Step}
-use Rattle.rules.specs.declared.Refusal.the-variants.{NoSuchStep}
-use Rattle.rules.specs.Refusal.{numberOf}
 use Rattle.rules.specs.Table.{tableFits}
 use Rattle.rules.specs.State.{stateFits}
-use Rattle.rules.specs.Step.{stepOf, moved}
+use Rattle.rules.specs.Step.{moved}
 use Rattle.rules.specs.Judge.{stepRefusal, recordRefusal, refusal, judged}
 use Rattle.rules.proofs.Each.{same?}
 use Rattle.rules.proofs.Checks.{record-accepted, accepted-record, refusal-step}

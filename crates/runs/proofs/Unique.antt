@@ -3,7 +3,7 @@ use mathlib.Core.Path.{_≡_, sym, ap, _∙_}
 use borrow.Fn.Kinds as K
 use contract.Lifetimes.{Lfts}
 use denote.Ref.{now}
-use Rattle.rules.proofs.Order.{verdict-one}
+use Rattle.words.proofs.Order.{verdict-one}
 use Rattle.rules.proofs.Unique.{written-one}
 use Rattle.runs.specs.declared.Ran.{Ran}
 use Rattle.runs.specs.Run.{Outcome, told}

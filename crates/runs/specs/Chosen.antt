@@ -1,9 +1,9 @@
 -- Document 01, "Steps": a run by the fixed policy.
 use mathlib.Core.List.{List, [], _∷_}
 use Prim.Native.Nat.{ℕ, zero, suc, min}
+use Rattle.words.specs.declared.Step.{Step}
 use Rattle.rules.specs.declared.State.{State}
 use Rattle.rules.specs.declared.Table.{Table}
-use Rattle.rules.specs.declared.Step.{Step}
 use Rattle.rules.specs.Step.{moved}
 use Rattle.runs.specs.Open.{openSteps}
 use Rattle.runs.specs.Run.{Outcome, stopped, checked}

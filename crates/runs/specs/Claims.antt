@@ -6,14 +6,14 @@ use mathlib.Core.Logic.{_⊎_}
 use Prim.Native.Nat.{ℕ, suc, _+_, _*_, _≤_, _<_, min}
 use lib.Dec.{eqb}
 use lib.ListN.{length}
+use Rattle.words.specs.declared.Step.{Step}
+use Rattle.words.specs.declared.Refusal.the-variants.{NoSuchStep}
+use Rattle.words.specs.Refusal.{numberOf}
+use Rattle.words.specs.Pair.{kindOf, headNumber, stepOf}
 use Rattle.rules.specs.declared.State.{State}
 use Rattle.rules.specs.declared.Table.{Table}
-use Rattle.rules.specs.declared.Step.{Step}
-use Rattle.rules.specs.declared.Refusal.the-variants.{NoSuchStep}
-use Rattle.rules.specs.Refusal.{numberOf}
 use Rattle.rules.specs.Table.{tableFits}
 use Rattle.rules.specs.State.{stateFits}
-use Rattle.rules.specs.Step.{kindOf, headNumber, stepOf}
 use Rattle.rules.specs.Judge.{recordRefusal, refusal, judged}
 use Rattle.runs.specs.Open.{openSteps, stepBytes, firstDue}
 use Rattle.runs.specs.Run.{Outcome, stopped, run}

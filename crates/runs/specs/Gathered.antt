@@ -4,7 +4,7 @@ use mathlib.Core.Bool.{Bool}
 use mathlib.Core.List.{List, _++_}
 use Prim.Native.Nat.{ℕ}
 use lib.ListN.{length, take}
-use Rattle.rules.specs.declared.Step.{Step}
+use Rattle.words.specs.declared.Step.{Step}
 use Rattle.runs.specs.declared.listing.Pairs.{Pairs}
 use Rattle.runs.specs.Open.{onlyIf, stepBytes}
 

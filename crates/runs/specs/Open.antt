@@ -4,13 +4,14 @@ use mathlib.Core.Bool.{Bool, true, false, cond}
 use mathlib.Core.List.{List, [], _∷_, _++_}
 use Prim.Native.Nat.{ℕ, zero, suc}
 use lib.Dec.{leb}
+use Rattle.words.specs.declared.Step.{Step}
+use Rattle.words.specs.declared.Step.the-variants.{Advance, Timer, Hear}
+use Rattle.words.specs.Pair.{kindOf, headNumber}
 use Rattle.rules.specs.declared.State.{State}
 use Rattle.rules.specs.declared.Table.{Table}
-use Rattle.rules.specs.declared.Step.{Step}
-use Rattle.rules.specs.declared.Step.the-variants.{Advance, Timer, Hear}
 use Rattle.rules.specs.Limits.{ceiling}
 use Rattle.rules.specs.Calendar.{hearDue}
-use Rattle.rules.specs.Step.{kindOf, headNumber, timerDue, due, nextInstant}
+use Rattle.rules.specs.Step.{timerDue, due, nextInstant}
 
 -- a step where a test holds, otherwise none
 unfoldable pub onlyIf : Bool → Step → List Step

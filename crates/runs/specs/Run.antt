@@ -3,11 +3,12 @@ use mathlib.Core.Bool.{cond}
 use mathlib.Core.List.{List, [], _∷_}
 use Prim.Native.Nat.{ℕ, suc}
 use lib.Dec.{eqb}
+use Rattle.words.specs.declared.Refusal.the-variants.{NoSuchStep}
+use Rattle.words.specs.Refusal.{numberOf, verdictNumber}
+use Rattle.words.specs.Pair.{stepOf}
 use Rattle.rules.specs.declared.State.{State}
 use Rattle.rules.specs.declared.Table.{Table}
-use Rattle.rules.specs.declared.Refusal.the-variants.{NoSuchStep}
-use Rattle.rules.specs.Refusal.{numberOf, verdictNumber}
-use Rattle.rules.specs.Step.{stepOf, moved}
+use Rattle.rules.specs.Step.{moved}
 use Rattle.rules.specs.Judge.{stepRefusal, recordRefusal}
 use Rattle.runs.specs.declared.Ran.{Ran}
 

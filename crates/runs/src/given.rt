@@ -1,11 +1,11 @@
 // A run of given steps.
 use crate::Ran;
 use crate::stopped;
-use rules::Refusal;
 use rules::State;
-use rules::Step;
 use rules::Table;
-use rules::Verdict;
+use words::Refusal;
+use words::Step;
+use words::Verdict;
 ghost use mathlib.Core.Path.{_≡_};
 ghost use mathlib.Core.Bool.{true};
 ghost use Rattle.rules.specs.Table.{tableFits};

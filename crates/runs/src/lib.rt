@@ -1,10 +1,10 @@
 // What a class does with the bench: see which steps are open, play a list of steps, let the fixed policy play. Each function checks
-// its table and its state once, by rules, and then only steps. It uses hearers, rules and steps, and the theorems of exact: that an
-// accepted step keeps the state rules is why nothing is checked again on the way.
+// its table and its state once, by rules, and then only steps. It uses words, hearers, rules and steps, and the theorems of exact:
+// that an accepted step keeps the state rules is why nothing is checked again on the way.
 use rules::State;
-use rules::Verdict;
+use words::Verdict;
 ghost use mathlib.Core.Path.{_≡_};
-ghost use Rattle.rules.specs.Refusal.{verdictNumber};
+ghost use Rattle.words.specs.Refusal.{verdictNumber};
 ghost use Rattle.runs.specs.Run.{stopped, told};
 
 mod given;

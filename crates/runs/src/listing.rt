@@ -1,17 +1,17 @@
 // The step list: every step that is accepted now, in lent room.
 use crate::search::hear_due;
-use rules::Refusal;
 use rules::State;
-use rules::Step;
 use rules::Table;
-use rules::Verdict;
 use rules::Written;
+use words::Refusal;
+use words::Step;
+use words::Verdict;
 ghost use mathlib.Core.Path.{_≡_};
 ghost use mathlib.Core.Bool.{true};
 ghost use mathlib.Core.List.{_++_};
 ghost use Prim.Native.Nat.{_+_, _≤_};
 ghost use lib.ListN.{length, take, drop};
-ghost use Rattle.rules.specs.Refusal.{verdictNumber};
+ghost use Rattle.words.specs.Refusal.{verdictNumber};
 ghost use Rattle.rules.specs.Table.{tableFits};
 ghost use Rattle.rules.specs.State.{stateFits};
 ghost use Rattle.runs.specs.Open.{openTo, openSteps};

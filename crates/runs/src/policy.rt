@@ -4,7 +4,7 @@ use crate::search::first_due;
 use crate::stopped;
 use rules::State;
 use rules::Table;
-use rules::Verdict;
+use words::Verdict;
 ghost use mathlib.Core.Path.{_≡_};
 ghost use mathlib.Core.Bool.{true};
 ghost use Rattle.rules.specs.Table.{tableFits};

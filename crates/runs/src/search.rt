@@ -1,7 +1,7 @@
 // The search for the first due step.
 use rules::Calendar;
 use rules::State;
-use rules::Step;
+use words::Step;
 ghost use mathlib.Core.Path.{_≡_};
 ghost use Prim.Native.Nat.{_≤_};
 ghost use Rattle.rules.specs.Calendar.{hearDue};

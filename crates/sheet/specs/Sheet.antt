@@ -3,14 +3,14 @@ use mathlib.Core.Path.{_≡_}
 use Prim.Native.Nat.{ℕ}
 use lib.ListN.{replicate}
 use Rattle.hearers.specs.Set.{alone}
+use Rattle.words.specs.declared.Step.{Step}
+use Rattle.words.specs.declared.Step.the-variants.{Advance, Timer, Hear}
+use Rattle.words.specs.Pair.{stepOf}
 use Rattle.rules.specs.declared.Phase.the-variants.{Coldstart, Active}
 use Rattle.rules.specs.declared.State.{State}
 use Rattle.rules.specs.declared.Table.{Table}
-use Rattle.rules.specs.declared.Step.{Step}
-use Rattle.rules.specs.declared.Step.the-variants.{Advance, Timer, Hear}
 use Rattle.rules.specs.Calendar.{iFrame, emptyCalendar}
 use Rattle.rules.specs.State.{headIn, headOf, timeoutOf, fresh}
-use Rattle.rules.specs.Step.{stepOf}
 use Rattle.rules.specs.Judge.{refusal, judged}
 use Rattle.sheet.specs.Tables.{tableE, tableF, refusals, lines, listing, stepsE, atE, atF}
 

@@ -2,12 +2,12 @@
 use mathlib.Core.List.{List, [], _∷_, map, foldl}
 use Prim.Native.Nat.{ℕ}
 use lib.ListN.{take, replicate}
+use Rattle.words.specs.declared.Step.{Step}
+use Rattle.words.specs.declared.Step.the-variants.{Advance, Timer, Hear}
+use Rattle.words.specs.Pair.{headNumber}
 use Rattle.rules.specs.declared.State.{State}
 use Rattle.rules.specs.declared.Table.{Table}
-use Rattle.rules.specs.declared.Step.{Step}
-use Rattle.rules.specs.declared.Step.the-variants.{Advance, Timer, Hear}
 use Rattle.rules.specs.State.{phaseNumber, slotNumber, phaseOf, timeoutOf, fresh}
-use Rattle.rules.specs.Step.{headNumber}
 use Rattle.rules.specs.Judge.{refusal, judged}
 
 -- "Table E: N 2, S 10, P 2, wakes 3 and 5."

@@ -3,12 +3,12 @@ use mathlib.Core.Path.{_≡_, sym, subst}
 use mathlib.Core.Bool.{true}
 use mathlib.Core.List.{List, [], _∷_, _++_}
 use Prim.Native.Nat.{ℕ, min}
+use Rattle.words.specs.declared.Step.{Step}
+use Rattle.words.specs.Pair.{stepOf}
 use Rattle.rules.specs.declared.State.{State}
 use Rattle.rules.specs.declared.Table.{Table}
-use Rattle.rules.specs.declared.Step.{Step}
 use Rattle.rules.specs.Table.{tableFits}
 use Rattle.rules.specs.State.{stateFits, fresh}
-use Rattle.rules.specs.Step.{stepOf}
 use Rattle.rules.proofs.Meaning.{table-meets, meets-state}
 use Rattle.exact.proofs.Keeps.{fresh-meets}
 use Rattle.runs.specs.Open.{stepBytes}

@@ -5,13 +5,13 @@ use mathlib.Core.List.{List}
 use mathlib.Core.Logic.{_⊎_, inl, inr}
 use Prim.Native.Nat.{_<_}
 use borrow.Author.Tests.{lt-leb}
+use Rattle.words.specs.declared.Step.{Step}
+use Rattle.words.specs.declared.Step.the-variants.{Advance, Timer, Hear}
+use Rattle.words.specs.declared.Refusal.the-variants.{PastCeiling}
+use Rattle.words.specs.Refusal.{numberOf, unless, firstOf}
 use Rattle.rules.specs.declared.State.{State}
 use Rattle.rules.specs.declared.Table.{Table}
-use Rattle.rules.specs.declared.Step.{Step}
-use Rattle.rules.specs.declared.Step.the-variants.{Advance, Timer, Hear}
-use Rattle.rules.specs.declared.Refusal.the-variants.{PastCeiling}
 use Rattle.rules.specs.Limits.{ceiling}
-use Rattle.rules.specs.Refusal.{numberOf, unless, firstOf}
 use Rattle.rules.specs.Table.{tableFits, tableRefusal}
 use Rattle.rules.specs.State.{stateRefusal}
 use Rattle.rules.specs.Step.{due, nextInstant}

@@ -6,12 +6,12 @@ use mathlib.Core.List.{List, [], _∷_}
 use mathlib.Core.Logic.{_⊎_, inl, inr}
 use native.Mathlib.Omega.{arith}
 use Rattle.hearers.proofs.Laws.{has-none}
+use Rattle.words.specs.declared.Step.{Step}
 use Rattle.rules.specs.declared.Phase.{Phase}
 use Rattle.rules.specs.declared.Phase.the-variants.{Init, Listen, Coldstart, Active}
 use Rattle.rules.specs.declared.Head.{Head}
 use Rattle.rules.specs.declared.State.{State}
 use Rattle.rules.specs.declared.Table.{Table}
-use Rattle.rules.specs.declared.Step.{Step}
 use Rattle.rules.specs.Table.{wakeOf}
 use Rattle.rules.specs.State.{phaseNumber, slotNumber, phaseOf, fresh}
 use Rattle.rules.specs.Step.{due, moved}

@@ -7,14 +7,14 @@ use native.Mathlib.Omega.{arith}
 use borrow.Author.Tests.{eqb-false, lt-ltb, le-ltb, eq-eqb, ne-eqb}
 use Rattle.hearers.specs.Set.{has}
 use Rattle.hearers.proofs.Laws.{has-low, has-none}
+use Rattle.words.specs.declared.Step.{Step}
+use Rattle.words.specs.declared.Step.the-variants.{Advance, Timer, Hear}
 use Rattle.rules.specs.declared.Phase.{Phase}
 use Rattle.rules.specs.declared.Phase.the-variants.{Init, Listen, Coldstart, Active}
 use Rattle.rules.specs.declared.Head.{Head}
 use Rattle.rules.specs.declared.Calendar.{Calendar}
 use Rattle.rules.specs.declared.State.{State}
 use Rattle.rules.specs.declared.Table.{Table}
-use Rattle.rules.specs.declared.Step.{Step}
-use Rattle.rules.specs.declared.Step.the-variants.{Advance, Timer, Hear}
 use Rattle.rules.specs.Table.{round, offset, wakeOf}
 use Rattle.rules.specs.Calendar.{coldstartFrame, iFrame, hears, left, send}
 use Rattle.rules.specs.State.{phaseNumber, slotNumber, headIn, headOf, put, phaseOf, timeoutOf, listenWait, coldstartWait}

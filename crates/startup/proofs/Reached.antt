@@ -7,13 +7,13 @@ use lib.Dec.{eqb}
 use lib.ListN.{replicate}
 use borrow.Author.Tests.{eqb-true}
 use Rattle.hearers.specs.Set.{has, alone, without, allBut}
+use Rattle.words.specs.declared.Step.{Step}
+use Rattle.words.specs.declared.Step.the-variants.{Advance, Timer, Hear}
+use Rattle.words.specs.Refusal.{unless, firstOf}
 use Rattle.rules.specs.declared.Phase.the-variants.{Coldstart, Active}
 use Rattle.rules.specs.declared.State.{State}
 use Rattle.rules.specs.declared.Table.{Table}
-use Rattle.rules.specs.declared.Step.{Step}
-use Rattle.rules.specs.declared.Step.the-variants.{Advance, Timer, Hear}
 use Rattle.rules.specs.Each.{every, some}
-use Rattle.rules.specs.Refusal.{unless, firstOf}
 use Rattle.rules.specs.Table.{isHead, round, offset, wakeOf, numbersFit, wakeFits, tableFits, tableRefusal}
 use Rattle.rules.specs.Calendar.{quiet, hears, hearDue, settled, left, taken, send, deliveryDue, allZero, frameFits, calendarFits}
 use Rattle.rules.specs.State.{phaseOf, timeoutOf, headOf, put, listenWait, coldstartWait, phaseFits, headFits, isZero, placeFits, frontFits, stateFits, stateRefusal, fresh}

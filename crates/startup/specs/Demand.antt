@@ -6,10 +6,10 @@ use mathlib.Core.Path.{_≡_}
 use mathlib.Core.Bool.{true, false}
 use mathlib.Core.List.{List, [], _∷_, _++_}
 use Prim.Native.Nat.{ℕ, zero, suc, _+_, _*_, _≤_, max}
+use Rattle.words.specs.declared.Step.{Step}
 use Rattle.rules.specs.declared.Phase.the-variants.{Active}
 use Rattle.rules.specs.declared.State.{State}
 use Rattle.rules.specs.declared.Table.{Table}
-use Rattle.rules.specs.declared.Step.{Step}
 use Rattle.rules.specs.Table.{round, wakeOf, tableFits}
 use Rattle.rules.specs.State.{phaseOf, timeoutOf, fresh}
 use Rattle.rules.specs.Step.{due}

@@ -10,24 +10,24 @@ use lib.Dec.{eqb, leb}
 use lib.ListN.{getD, set}
 use borrow.Author.Tests.{eq-eqb, ne-eqb, lt-ltb, le-ltb, lt-leb, le-leb}
 use Rattle.hearers.specs.Set.{has, without, allBut}
+use Rattle.words.specs.declared.Step.{Step}
+use Rattle.words.specs.declared.Step.the-variants.{Advance, Timer, Hear}
+use Rattle.words.specs.declared.Refusal.{Refusal}
+use Rattle.words.specs.declared.Refusal.the-variants.{NoSuchStep, SomethingDue, TimerNotDue, NotHearing, PastCeiling, OwnFrame}
+use Rattle.words.specs.Refusal.{numberOf, unless}
+use Rattle.words.proofs.Order.{number-some, is-unless, unless-not, first-some, first-none, first-last, is-row}
 use Rattle.rules.specs.declared.Phase.{Phase}
 use Rattle.rules.specs.declared.Phase.the-variants.{Init, Listen, Coldstart, Active}
 use Rattle.rules.specs.declared.Head.{Head}
 use Rattle.rules.specs.declared.Calendar.{Calendar}
 use Rattle.rules.specs.declared.State.{State}
 use Rattle.rules.specs.declared.Table.{Table}
-use Rattle.rules.specs.declared.Step.{Step}
-use Rattle.rules.specs.declared.Step.the-variants.{Advance, Timer, Hear}
-use Rattle.rules.specs.declared.Refusal.{Refusal}
-use Rattle.rules.specs.declared.Refusal.the-variants.{NoSuchStep, SomethingDue, TimerNotDue, NotHearing, PastCeiling, OwnFrame}
 use Rattle.rules.specs.Limits.{ceiling}
-use Rattle.rules.specs.Refusal.{numberOf, unless}
 use Rattle.rules.specs.Table.{isHead, tableFits}
 use Rattle.rules.specs.Calendar.{coldstartFrame, iFrame, hears, hearDue, emptyCalendar, settled, left, taken}
 use Rattle.rules.specs.State.{headIn, noHead, headOf, put, timeoutOf, phaseOf, listenWait, coldstartWait, stateFits}
 use Rattle.rules.specs.Step.{timerDue, due, leastTimeout, nextInstant, advance, slotAfter, timerHead, timerFrame, sends, timer, listenerWait, joined, hearHead, hear, moved}
 use Rattle.rules.specs.Judge.{nameRefusal, dueRefusal, lastRefusal, stepRefusal, stateAfter}
-use Rattle.rules.proofs.Order.{number-some, is-unless, unless-not, first-some, first-none, first-last, is-row}
 use Rattle.rules.proofs.Meaning.{table-meets, state-meets, is-quiet, not-quiet}
 use Rattle.rules.proofs.Waits.{coldstart-le}
 use Rattle.rules.proofs.Checks.{head-at}

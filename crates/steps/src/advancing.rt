@@ -2,14 +2,14 @@
 use crate::accepted;
 use crate::refused;
 use rules::Judged;
-use rules::Refusal;
 use rules::State;
-use rules::Step;
 use rules::Table;
+use words::Refusal;
+use words::Step;
 ghost use mathlib.Core.Path.{_≡_};
 ghost use mathlib.Core.Bool.{true};
 ghost use Prim.Native.Nat.{_≤_};
-ghost use Rattle.rules.specs.Refusal.{verdictNumber};
+ghost use Rattle.words.specs.Refusal.{verdictNumber};
 ghost use Rattle.rules.specs.Table.{tableFits};
 ghost use Rattle.rules.specs.State.{stateFits};
 ghost use Rattle.rules.specs.Step.{leastTimeout, nextInstant};

@@ -1,15 +1,15 @@
 // The steps themselves, on a table and a state that are known to fit: send, timer, hear, advance, and a proposed step attempted.
-// Nothing here looks at the record rules again, so a run can check its table and state once and then step. It uses hearers and
-// rules; judge puts the record checks in front of it for everybody else.
+// Nothing here looks at the record rules again, so a run can check its table and state once and then step. It uses words,
+// hearers and rules; judge puts the record checks in front of it for everybody else.
 use rules::Judged;
-use rules::Refusal;
 use rules::State;
-use rules::Step;
 use rules::Table;
-use rules::Verdict;
+use words::Refusal;
+use words::Step;
+use words::Verdict;
 ghost use mathlib.Core.Path.{_≡_};
 ghost use mathlib.Core.Bool.{true};
-ghost use Rattle.rules.specs.Refusal.{numberOf, verdictNumber};
+ghost use Rattle.words.specs.Refusal.{numberOf, verdictNumber};
 ghost use Rattle.rules.specs.Table.{tableFits};
 ghost use Rattle.rules.specs.State.{stateFits};
 ghost use Rattle.rules.specs.Judge.{stepRefusal, stateAfter};

@@ -10,11 +10,11 @@ use lib.Dec.{ltb}
 use lib.ListN.{length, getD, take, drop, length-append, drop-of-length-le}
 use lib.Seq.{take-at, length-take-le, drop-cons}
 use borrow.Author.Tests.{ne-eqb, lt-ltb, le-leb, lt-leb}
+use Rattle.words.specs.declared.Step.{Step}
+use Rattle.words.specs.declared.Refusal.the-variants.{NoSuchStep}
+use Rattle.words.specs.Refusal.{numberOf}
+use Rattle.words.specs.Pair.{stepOf}
 use Rattle.rules.specs.declared.State.{State}
-use Rattle.rules.specs.declared.Step.{Step}
-use Rattle.rules.specs.declared.Refusal.the-variants.{NoSuchStep}
-use Rattle.rules.specs.Refusal.{numberOf}
-use Rattle.rules.specs.Step.{stepOf}
 use Rattle.rules.specs.Judge.{refusal, judged}
 use Rattle.rules.proofs.Each.{same?, less?}
 use Rattle.lines.specs.Line.{rowLine, stepLine, endLine}

@@ -8,20 +8,20 @@ use native.Mathlib.Nat.{le-of-lt, min-eq-left, min-eq-right, min-le-right}
 use lib.Dec.{eqb, leb}
 use lib.ListN.{length, getD, take, drop, List·getD-eq-default}
 use borrow.Author.Tests.{ne-eqb, le-leb, lt-leb}
+use Rattle.words.specs.declared.Refusal.the-variants.{TableLength, TableMark, TableRange}
+use Rattle.words.specs.Refusal.{unless}
+use Rattle.words.proofs.Order.{first-is}
 use Rattle.rules.specs.declared.State.{State}
 use Rattle.rules.specs.declared.Table.{Table}
-use Rattle.rules.specs.declared.Refusal.the-variants.{TableLength, TableMark, TableRange}
 use Rattle.rules.specs.Each.{between}
 use Rattle.rules.specs.Limits.{maxHeads}
-use Rattle.rules.specs.Refusal.{unless}
 use Rattle.rules.specs.Table.{tableFits, tableRefusal}
 use Rattle.rules.specs.State.{fresh, freshOrBlank}
 use Rattle.rules.proofs.Each.{same?}
-use Rattle.rules.proofs.Order.{first-is}
 use Rattle.rules.proofs.Checks.{accepted-table}
-use Rattle.images.specs.Fields.{countPlace, isMarked, countIn}
-use Rattle.images.specs.TableImage.{tableMark, tableFront, tableLength, tableIn, readTableRefusal, blankTable, readTable}
-use Rattle.images.proofs.Cases.{or-some}
+use Rattle.octets.specs.Fields.{countPlace, isMarked, countIn}
+use Rattle.octets.proofs.Cases.{or-some}
+use Rattle.table_images.specs.TableImage.{tableMark, tableFront, tableLength, tableIn, readTableRefusal, blankTable, readTable}
 use Rattle.walk.specs.Listing.{askedLength, tablePart, unlessRefused, linesFrom, listingOf, listing}
 use Rattle.walk.specs.Pieces.{rest}
 

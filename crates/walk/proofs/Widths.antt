@@ -12,14 +12,14 @@ use denote.Shadow.{shadow}
 use denote.Array.{each}
 use denote.Struct.Declared.{row}
 use denote.Enum.Declared as enum
+use Rattle.words.specs.declared.Step.{Step}
+use Rattle.words.specs.Pair.{headNumber, stepOf}
 use Rattle.rules.specs.declared.Head.{Head}
 use Rattle.rules.specs.declared.Phase.{Phase}
 use Rattle.rules.specs.declared.Phase.the-variants.{Init, Listen, Coldstart, Active}
 use Rattle.rules.specs.declared.Judged.{Judged}
 use Rattle.rules.specs.declared.State.{State}
-use Rattle.rules.specs.declared.Step.{Step}
 use Rattle.rules.specs.State.{noHead, headOf, phaseNumber, slotNumber, phaseOf}
-use Rattle.rules.specs.Step.{headNumber, stepOf}
 use Rattle.rules.proofs.Each.{less?}
 use Rattle.rules.proofs.Head.{the-field}
 use Rattle.rules.proofs.Judged as judged

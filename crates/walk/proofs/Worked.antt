@@ -1,17 +1,18 @@
 -- The listing of table E's seventeen steps, by computation.
 use mathlib.Core.Path.{refl}
 use Rattle.hearers.specs.Set.{has, alone, without, allBut}
+use Rattle.words.specs.Refusal.{unless, firstOf}
+use Rattle.words.specs.Pair.{stepOf}
 use Rattle.rules.specs.Each.{every, some}
-use Rattle.rules.specs.Refusal.{unless, firstOf}
 use Rattle.rules.specs.Table.{isHead, round, offset, wakeOf, numbersFit, wakeFits, tableFits, tableRefusal}
 use Rattle.rules.specs.Calendar.{quiet, hears, hearDue, settled, left, taken, send, deliveryDue, allZero, frameFits, calendarFits}
 use Rattle.rules.specs.State.{headOf, put, listenWait, coldstartWait, phaseFits, headFits, isZero, placeFits, frontFits, stateFits, stateRefusal, fresh}
-use Rattle.rules.specs.Step.{stepOf, timerDue, due, leastTimeout, nextInstant, advance, slotAfter, timerHead, timerFrame, sends, timer, listenerWait, hearHead, hear, moved}
+use Rattle.rules.specs.Step.{timerDue, due, leastTimeout, nextInstant, advance, slotAfter, timerHead, timerFrame, sends, timer, listenerWait, hearHead, hear, moved}
 use Rattle.rules.specs.Judge.{nameRefusal, dueRefusal, lastRefusal, stepRefusal, stateAfter, refusal, judged}
 use Rattle.rules.specs.State.{freshOrBlank, blank}
-use Rattle.images.specs.Bytes.{numberAt}
-use Rattle.images.specs.Fields.{isMarked, places, orBlank}
-use Rattle.images.specs.TableImage.{tableIn, readTableRefusal}
+use Rattle.octets.specs.Bytes.{numberAt}
+use Rattle.octets.specs.Fields.{isMarked, places, orBlank}
+use Rattle.table_images.specs.TableImage.{tableIn, readTableRefusal}
 use Rattle.lines.specs.Decimal.{decimalIn, decimal}
 use Rattle.lines.specs.Line.{lineOf, rowLine, stepLine, endLine}
 use Rattle.lines.specs.Worked.{bytes}

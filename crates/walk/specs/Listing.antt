@@ -4,17 +4,17 @@ use mathlib.Core.List.{List, [], _∷_, _++_}
 use Prim.Native.Nat.{ℕ, suc, min}
 use lib.Dec.{eqb}
 use lib.ListN.{length, getD, take, drop}
+use Rattle.words.specs.declared.Refusal.the-variants.{NoSuchStep}
+use Rattle.words.specs.Refusal.{numberOf}
+use Rattle.words.specs.Pair.{stepOf}
 use Rattle.rules.specs.declared.State.{State}
 use Rattle.rules.specs.declared.Table.{Table}
-use Rattle.rules.specs.declared.Refusal.the-variants.{NoSuchStep}
 use Rattle.rules.specs.Each.{between}
 use Rattle.rules.specs.Limits.{maxHeads}
-use Rattle.rules.specs.Refusal.{numberOf}
 use Rattle.rules.specs.State.{fresh}
-use Rattle.rules.specs.Step.{stepOf}
 use Rattle.rules.specs.Judge.{refusal, judged}
-use Rattle.images.specs.Fields.{countPlace}
-use Rattle.images.specs.TableImage.{tableFront, tableLength, readTableRefusal, readTable}
+use Rattle.octets.specs.Fields.{countPlace}
+use Rattle.table_images.specs.TableImage.{tableFront, tableLength, readTableRefusal, readTable}
 use Rattle.lines.specs.Line.{stepLine, endLine}
 
 -- "at most 65,536 bytes are read"

@@ -1,6 +1,7 @@
 // The program `walk` of document 01: a table image and step pairs on standard input, the listing on standard output. What a
 // listing is, is said in specs/; opening reads the input's table part, pieces makes the listing's bytes, and only this file reads
-// and writes. It judges nothing itself: it uses images, rules, judge and lines, and io and libc for the two channels.
+// and writes. It judges nothing itself: it uses words, rules, judge, table_images and lines, octets and hearers in its
+// proofs, and io and libc for the two channels.
 mod opening;
 mod pieces;
 

@@ -19,7 +19,7 @@ pub fn start(input: &[u8]) -> Place
     ensures { λ r. ⌜ (rest r (now (input .entry)) ≡ listing (now (input .entry))) × (r .at ≤ length (now (input .entry))) × (r .accepted ≡ 0) ⌝ }
 {
     let part = table_part(input);
-    let read = images::tables::read(&input[..part]);
+    let read = table_images::read(&input[..part]);
     let v = read.verdict;
     let t = read.table;
     let fresh = State::fresh(t);

@@ -1,10 +1,10 @@
 // The listing's bytes, piece by piece.
 use crate::Piece;
 use crate::Place;
-use rules::Refusal;
 use rules::State;
-use rules::Step;
-use rules::Verdict;
+use words::Refusal;
+use words::Step;
+use words::Verdict;
 ghost use mathlib.Core.Path.{_≡_};
 ghost use mathlib.Core.Bool.{true};
 ghost use mathlib.Core.List.{_++_};

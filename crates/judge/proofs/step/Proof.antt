@@ -1,4 +1,4 @@
-use Rattle.rules.proofs.Order.{accepted-zero, refused-some}
+use Rattle.words.proofs.Order.{accepted-zero, refused-some}
 use Rattle.rules.proofs.Checks.{accepted-record}
 use Rattle.judge.proofs.Laws.{unfit, fit}
 use borrow.Author.Needs.{needs}

@@ -12,11 +12,11 @@ head-at-requires c κs = search needs
 letter-requires : tie.Need-letter-requires
 letter-requires c κs = search needs
 
-phase-number-requires : tie.Need-phase-number-requires
-phase-number-requires c κs = search needs
+number-requires : tie.Need-number-requires
+number-requires c κs = search needs
 
-slot-number-requires : tie.Need-slot-number-requires
-slot-number-requires c κs = search needs
+slot-requires : tie.Need-slot-requires
+slot-requires c κs = search needs
 
 put-row-requires : tie.Need-put-row-requires
 put-row-requires c κs = search needs
@@ -27,7 +27,7 @@ same-length c = c .before .before .put-row .kept .0
 returns : tie.Need-returns
 returns c =
     let a = (c .before .before .before .before .before .before .before .before .before .before .args) in
-    step-written (a .room .now) (a .at) (a .s) (a .x) _ _ _ _ _ (c .before .before .before .before .before .before .before .before .head .ensures) (c .before .before .before .before .before .before .before .head-at .ensures) (c .before .before .before .before .before .letter .ensures) (c .before .before .before .before .phase-number .ensures) (c .before .before .before .slot-number .ensures) _ _ (c .before .before .put-row .ensures)
+    step-written (a .room .now) (a .at) (a .s) (a .x) _ _ _ _ _ (c .before .before .before .before .before .before .before .before .head .ensures) (c .before .before .before .before .before .before .before .head-at .ensures) (c .before .before .before .before .before .letter .ensures) (c .before .before .before .before .number .ensures) (c .before .before .before .slot .ensures) _ _ (c .before .before .put-row .ensures)
 
 pub put-step-spec : {M : Type 1} → statement M
 put-step-spec =
@@ -36,8 +36,8 @@ put-step-spec =
     head-requires
     head-at-requires
     letter-requires
-    phase-number-requires
-    slot-number-requires
+    number-requires
+    slot-requires
     put-row-requires
     same-length
     returns)

@@ -1,6 +1,6 @@
 use mathlib.Core.Path.{_∙_}
+use Rattle.words.proofs.Order.{accepted-zero, refused-some}
 use Rattle.rules.proofs.Known.{state-places}
-use Rattle.rules.proofs.Order.{accepted-zero, refused-some}
 use Rattle.rules.proofs.Checks.{flag-no, flag-yes, accepted-table, record-table, record-state, record-accepted, state-no-front, state-no-heads, state-yes, front-clock}
 use borrow.Author.Needs.{needs}
 use Rattle.rules.proofs.State.check.Statement.{statement}

@@ -1,5 +1,5 @@
 use mathlib.Core.Path.{_∙_}
-use Rattle.rules.proofs.Order.{accepted-zero, refused-some}
+use Rattle.words.proofs.Order.{accepted-zero, refused-some}
 use Rattle.rules.proofs.Checks.{accepted-table, refused-table, table-accepted, fresh-blank, fresh-made}
 use borrow.Author.Needs.{needs}
 use Rattle.rules.proofs.State.fresh.Statement.{statement}

@@ -1,8 +1,8 @@
 use mathlib.Core.Path.{_≡_, refl, _∙_}
 use Prim.Native.Nat.{_-_, _≤_}
-use Rattle.rules.proofs.Order.{accepted-zero, refused-some}
 use mathlib.Core.Bool.{true}
 use lib.ListN.{length, drop}
+use Rattle.words.proofs.Order.{accepted-zero, refused-some}
 use Rattle.rules.specs.State.{stateFits}
 use Rattle.runs.specs.Run.{runFrom}
 use Rattle.runs.proofs.Laws.{still-fits, run-on, run-refused, run-odd, run-done}

@@ -1,4 +1,4 @@
-use Rattle.rules.proofs.Order.{accepted-zero, refused-some}
+use Rattle.words.proofs.Order.{accepted-zero, refused-some}
 use Rattle.rules.proofs.Meaning.{table-meets}
 use Rattle.runs.proofs.Lists.{pairs-due, pairs-none, pairs-advance}
 use borrow.Author.Needs.{needs}

@@ -1,4 +1,4 @@
-use Rattle.rules.proofs.Order.{accepted-zero, refused-some}
+use Rattle.words.proofs.Order.{accepted-zero, refused-some}
 use Rattle.rules.proofs.Checks.{accepted-record}
 use Rattle.runs.proofs.Lists.{list-unfit, list-short, list-done}
 use Rattle.runs.proofs.Gathers.{held-fits}

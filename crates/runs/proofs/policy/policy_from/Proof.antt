@@ -1,7 +1,7 @@
 use mathlib.Core.Path.{_≡_, ap, _∙_}
 use Prim.Native.Nat.{_-_, _≤_}
 use native.Mathlib.Omega.{arith}
-use Rattle.rules.proofs.Order.{accepted-zero, refused-some}
+use Rattle.words.proofs.Order.{accepted-zero, refused-some}
 use Rattle.rules.proofs.Meaning.{table-meets}
 use mathlib.Core.Logic.{⊎-elim}
 use mathlib.Core.Bool.{true}

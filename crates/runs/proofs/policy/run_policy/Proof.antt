@@ -1,5 +1,5 @@
 use mathlib.Core.Path.{_∙_}
-use Rattle.rules.proofs.Order.{accepted-zero, refused-some}
+use Rattle.words.proofs.Order.{accepted-zero, refused-some}
 use Rattle.rules.proofs.Checks.{accepted-record}
 use Rattle.runs.specs.Chosen.{policy}
 use Rattle.runs.proofs.Laws.{unfit, fit, policy-short, policy-long}

@@ -1,5 +1,5 @@
-use Rattle.rules.specs.declared.Refusal.the-variants.{SomethingDue, PastCeiling}
 use native.Mathlib.Omega.{arith}
+use Rattle.words.specs.declared.Refusal.the-variants.{SomethingDue, PastCeiling}
 use Rattle.rules.proofs.Meaning.{table-meets}
 use Rattle.steps.proofs.Laws.{answer-refused, answer-accepted, advance-busy, advance-high, advance-open, advance-is}
 use borrow.Author.Needs.{needs}

@@ -1,5 +1,5 @@
-use Rattle.rules.specs.declared.Refusal.the-variants.{NoSuchStep, NotHearing, OwnFrame}
 use native.Mathlib.Omega.{arith}
+use Rattle.words.specs.declared.Refusal.the-variants.{NoSuchStep, NotHearing, OwnFrame}
 use Rattle.rules.proofs.Meaning.{table-meets}
 use Rattle.rules.proofs.Checks.{flag-no, flag-yes, slot-low, slot-high, slot-in}
 use Rattle.steps.proofs.Laws.{sender, answer-refused, answer-accepted, hear-unnamed, hear-shut, hear-own, hear-open, hear-moved, deaf, not-now, hears-now}

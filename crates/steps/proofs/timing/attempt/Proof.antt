@@ -1,5 +1,5 @@
-use Rattle.rules.specs.declared.Refusal.the-variants.{NoSuchStep, TimerNotDue}
 use native.Mathlib.Omega.{arith}
+use Rattle.words.specs.declared.Refusal.the-variants.{NoSuchStep, TimerNotDue}
 use Rattle.rules.proofs.Meaning.{table-meets}
 use Rattle.rules.proofs.Checks.{slot-low, slot-high, slot-in}
 use Rattle.steps.proofs.Laws.{sender, answer-refused, answer-accepted, timer-unnamed, timer-early, timer-open, timer-moved, timeout-is, timeout-not}

@@ -3,7 +3,7 @@ use native.Mathlib.Omega.{arith}
 use Prim.Native.Nat.{_+_, _-_, _≤_}
 use mathlib.Core.List.{_++_}
 use lib.ListN.{length, take}
-use Rattle.rules.proofs.Order.{accepted-zero, refused-some}
+use Rattle.words.proofs.Order.{accepted-zero, refused-some}
 use Rattle.lines.specs.Line.{endLine}
 use Rattle.walk.specs.declared.Place.{Place}
 use Rattle.walk.specs.Pieces.{Stands, longestLine, rest}

@@ -1,5 +1,0 @@
-pub mod Bytes
-pub mod Room
-pub mod Fields
-pub mod TableImage
-pub mod StateImage

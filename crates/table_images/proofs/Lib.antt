@@ -1,0 +1,4 @@
+pub mod Cases
+pub mod TableRound
+pub mod Unique
+pub mod Example
