@@ -51,6 +51,10 @@ unfolding headOf
 head-at hs zero l = absurd (omega arith)
 head-at hs (suc k) l = let e : suc k - 1 ≡ k = omega arith in rw e
 
+pub wake-after : (t : Table) (k : ℕ) → getD (t .wakes) k 0 ≡ wakeOf t (k + 1)
+unfolding wakeOf
+wake-after t k = rw add-one
+
 -- ---- the wakes, place by place
 
 module _ (t : Table) (k : ℕ) (r : Bool) (e : r ≡ wakeFits (t .n) (k + 1) (getD (t .wakes) k 0)) where
@@ -106,9 +110,9 @@ module _ (t : Table) (clock i : ℕ) (h : Head) where
   unfolding headFits
   head-late l = rw (lt-leb _ _ l)
 
-  pub head-init : clock ≤ h .timeout → h .phase ≡ Init → 1 ≤ i → eqb (h .timeout) (getD (t .wakes) (i - 1) 0) ≡ headFits t clock i h
+  pub head-init : clock ≤ h .timeout → h .phase ≡ Init → (w : ℕ) → w ≡ wakeOf t i → eqb (h .timeout) w ≡ headFits t clock i h
   unfolding headFits phaseFits
-  head-init l p a = rw (le-leb _ _ l, p, wake-at t i a)
+  head-init l p w e = rw (le-leb _ _ l, p, e)
 
   pub head-listen : clock ≤ h .timeout → h .phase ≡ Listen → (w : ℕ) → w ≡ listenWait t i → leb (h .timeout) (clock + w) ≡ headFits t clock i h
   unfolding headFits phaseFits

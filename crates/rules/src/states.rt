@@ -15,7 +15,7 @@ ghost use Prim.Native.Nat.{_≤_};
 ghost use Rattle.words.specs.Refusal.{verdictNumber};
 ghost use Rattle.rules.specs.Each.{every};
 ghost use Rattle.rules.specs.Limits.{maxHeads, ceiling};
-ghost use Rattle.rules.specs.Table.{tableFits, tableRefusal};
+ghost use Rattle.rules.specs.Table.{wakeOf, tableFits, tableRefusal};
 ghost use Rattle.rules.specs.State.{headIn, headOf, headFits, isZero, placeFits, frontFits, blank, freshOrBlank};
 ghost use Rattle.rules.specs.Judge.{recordRefusal};
 
@@ -124,7 +124,8 @@ fn heads_fit(t: Table, s: State) -> bool
     let mut k: usize = 0;
     while k < State::MAX_HEADS {
         let h = s.heads[k];
-        if !place_fits(t, s.clock, k as u8 + 1, h) {
+        let wake = t.wakes[k];
+        if !place_fits(t, wake, s.clock, k as u8 + 1, h) {
             return false;
         }
         k += 1;
@@ -132,15 +133,15 @@ fn heads_fit(t: Table, s: State) -> bool
     true
 }
 
-// A head place: a head's rules for 1 to N, zero above.
-fn place_fits(t: Table, clock: u32, i: u8, h: Head) -> bool
-    requires { ⌜ (tableFits t ≡ true) × (clock ≤ ceiling) × (1 ≤ i) × (i ≤ maxHeads) ⌝ }
+// A head place: a head's rules for 1 to N, zero above. Its wake comes beside the table, which is then not copied for each place.
+fn place_fits(t: Table, wake: u32, clock: u32, i: u8, h: Head) -> bool
+    requires { ⌜ (tableFits t ≡ true) × (wake ≡ wakeOf t i) × (clock ≤ ceiling) × (1 ≤ i) × (i ≤ maxHeads) ⌝ }
     ensures { λ r. ⌜ r ≡ placeFits t clock i h ⌝ }
 {
     if t.n < i {
         return is_zero(h);
     }
-    head_fits(t, clock, i, h)
+    head_fits(t, wake, clock, i, h)
 }
 
 fn is_zero(h: Head) -> bool
@@ -153,8 +154,8 @@ fn is_zero(h: Head) -> bool
     }
 }
 
-fn head_fits(t: Table, clock: u32, i: u8, h: Head) -> bool
-    requires { ⌜ (tableFits t ≡ true) × (clock ≤ ceiling) × (1 ≤ i) × (i ≤ maxHeads) ⌝ }
+fn head_fits(t: Table, wake: u32, clock: u32, i: u8, h: Head) -> bool
+    requires { ⌜ (tableFits t ≡ true) × (wake ≡ wakeOf t i) × (clock ≤ ceiling) × (1 ≤ i) × (i ≤ maxHeads) ⌝ }
     ensures { λ r. ⌜ r ≡ headFits t clock i h ⌝ }
 {
     let e = h.timeout;
@@ -163,10 +164,7 @@ fn head_fits(t: Table, clock: u32, i: u8, h: Head) -> bool
     }
     let ph = h.phase;
     match ph {
-        Phase::Init => {
-            let k = (i - 1) as usize;
-            e == t.wakes[k]
-        }
+        Phase::Init => e == wake,
         Phase::Listen => e <= clock + t.listen_wait(i),
         Phase::Coldstart => e <= clock + t.coldstart_wait(i),
         Phase::Active(k) => {

@@ -17,7 +17,7 @@ use Rattle.rules.specs.Step.{timerDue}
 use Rattle.runs.specs.declared.listing.Pairs.{Pairs}
 use Rattle.rules.specs.Calendar.{hearDue}
 use Rattle.runs.specs.Open.{onlyIf, openAt, openTo, stepBytes}
-use Rattle.runs.specs.Gathered.{mostBytes, Holds, Adds}
+use Rattle.runs.specs.Gathered.{mostBytes, gathered, Holds, Adds}
 
 -- ---- steps in bytes
 
@@ -49,7 +49,7 @@ to-short s (suc k) =
 
 -- ---- gathering
 
-pub holds-none : Holds record { bytes = replicate mostBytes 0; used = 0 } []
+pub holds-none : Holds (gathered (replicate mostBytes 0) 0) []
 unfolding stepBytes
 holds-none = record { places = length-replicate {A = ℕ} mostBytes 0; long = refl; same = refl }
 
@@ -64,17 +64,17 @@ two-more b u a c h =
     let n : length (take u b ++ (a ∷ c ∷ [])) ≡ u + 2 = length-append (take u b) (a ∷ c ∷ []) ∙ ap (λ (k : ℕ). k + 2) (length-take-le u b (omega arith)) in
     rw (e, sets-eq (a ∷ c ∷ []) b u h) (take-at (take u b ++ (a ∷ c ∷ [])) (drop (u + 2) b) (u + 2) n)
 
-pub adds-one : (p : Pairs) (b : Bool) (x : Step) → b ≡ true → p .used + 2 ≤ mostBytes → (kind : ℕ) → kind ≡ kindOf x → (i : ℕ) → i ≡ headNumber x
-    → Adds p b x record { bytes = set (set (p .bytes) (p .used) kind) (p .used + 1) i; used = p .used + 2 }
+pub adds-one : (bytes : List ℕ) (used : ℕ) (b : Bool) (x : Step) → b ≡ true → used + 2 ≤ mostBytes → (kind : ℕ) → kind ≡ kindOf x → (i : ℕ) → i ≡ headNumber x
+    → Adds (gathered bytes used) b x (gathered (set (set bytes used kind) (used + 1) i) (used + 2))
 unfolding onlyIf stepBytes
-adds-one p b x e r kind k i j l h =
+adds-one bytes used b x e r kind k i j l h =
     let m = h .places in
     let n = h .long in
     let o : stepBytes (l ++ onlyIf b x) ≡ stepBytes l ++ (kindOf x ∷ headNumber x ∷ []) = rw e (bytes-append l (x ∷ [])) in
     record {
       places = simp length-set m;
       long = ap (λ (y : ℕ). y + 2) n ∙ sym (length-append (stepBytes l) (kindOf x ∷ headNumber x ∷ [])) ∙ ap length (sym o);
-      same = two-more (p .bytes) (p .used) kind i (omega arith) ∙ rw (h .same, k, j) (sym o);
+      same = two-more bytes used kind i (omega arith) ∙ rw (h .same, k, j) (sym o);
     }
 
 -- what is gathered at k heads leaves room for the next

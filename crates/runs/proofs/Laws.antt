@@ -2,12 +2,13 @@
 use mathlib.Core.Path.{_≡_, refl, sym, ap, _∙_}
 use mathlib.Core.Bool.{Bool, true, false, _&&_}
 use mathlib.Core.List.{List, [], _∷_, _++_}
-use Prim.Native.Nat.{ℕ, suc, _+_, _-_, _≤_, _<_, min}
+use mathlib.Core.Logic.{inl, inr}
+use Prim.Native.Nat.{ℕ, zero, suc, _+_, _-_, _≤_, _<_, min}
 use native.Mathlib.Nat.{min-eq-left, min-eq-right, le-of-lt}
 use native.Mathlib.Numerals.{add-one}
 use native.Mathlib.Omega.{arith}
 use lib.Dec.{eqb}
-use lib.ListN.{length, getD, drop, drop-of-length-le}
+use lib.ListN.{length, getD, set, drop, drop-of-length-le}
 use lib.Seq.{drop-cons}
 use borrow.Author.Tests.{eq-eqb, ne-eqb}
 use Rattle.hearers.specs.Set.{has}
@@ -15,22 +16,30 @@ use Rattle.words.specs.declared.Step.{Step}
 use Rattle.words.specs.declared.Step.the-variants.{Advance, Timer, Hear}
 use Rattle.words.specs.declared.Refusal.the-variants.{NoSuchStep}
 use Rattle.words.specs.Refusal.{numberOf}
-use Rattle.words.specs.Pair.{stepOf}
+use Rattle.words.specs.Pair.{stepOf, headNumber}
 use Rattle.rules.specs.declared.Calendar.{Calendar}
 use Rattle.rules.specs.declared.State.{State}
 use Rattle.rules.specs.declared.Table.{Table}
 use Rattle.rules.specs.Table.{tableFits}
 use Rattle.rules.specs.Calendar.{hears}
-use Rattle.rules.specs.State.{noHead, headOf, stateFits}
+use Rattle.rules.specs.Limits.{maxHeads, ceiling}
+use Rattle.rules.specs.declared.Head.{Head}
+use Rattle.rules.specs.State.{headOf, stateFits}
 use Rattle.rules.specs.Step.{timerDue, moved}
-use Rattle.rules.specs.Judge.{stepRefusal, stateAfter, recordRefusal}
+use Rattle.rules.specs.Judge.{stepRefusal, recordRefusal}
 use Rattle.rules.proofs.Meaning.{table-meets, state-meets, meets-state}
 use Rattle.exact.proofs.Keeps.{keeps}
 use Rattle.rules.specs.Calendar.{hearDue}
 use Rattle.runs.specs.Open.{onlyIf, openAt, openTo, openSteps, firstOr, firstDue}
 use Rattle.runs.specs.Run.{Outcome, stopped, onward, runFrom, checked}
 use Rattle.runs.specs.Chosen.{longestRun, onFirst, policyFrom}
-use Rattle.runs.proofs.Opens.{starts, first-open, first-refused}
+use Rattle.steps.specs.Parts.{place, timeouts, clockAfter}
+use Rattle.steps.specs.Ready.{Ready}
+use Rattle.steps.proofs.Parts.{place-low, place-in, place-within, timeout-at, timeouts-set}
+use Rattle.runs.proofs.Below.{nothing-below}
+use Rattle.rules.proofs.Each.{same?}
+use Rattle.runs.specs.Search.{dueTo}
+use Rattle.runs.proofs.Opens.{first-open, first-refused, first-free, first-high}
 
 -- ---- what is due at one head
 
@@ -50,44 +59,69 @@ hear-now clock c i e = rw (eq-eqb _ _ e) (and-yes (eqb (has (c .hearers) i) 1))
     and-yes true = refl
     and-yes false = refl
 
--- by the index that the code has, one below the head's number
-module _ (s : State) (k : ℕ) where
-  pub timer-now : getD (s .heads) k noHead .timeout ≡ s .clock → timerDue s (suc k) ≡ true
-  unfolding timerDue headOf
-  timer-now e = eq-eqb _ _ e
+-- ---- the search, by the timeouts alone
 
-  pub timer-later : (getD (s .heads) k noHead .timeout ≡ s .clock → ⊥) → timerDue s (suc k) ≡ false
-  unfolding timerDue headOf
-  timer-later n = ne-eqb _ _ n
+pub due-to : (s : State) (k : ℕ) → dueTo (timeouts (s .heads)) (s .clock) (s .calendar) k ≡ openTo s k
+unfolding dueTo openTo openAt timerDue headOf
+due-to s zero = refl
+due-to s (suc k) = rw (due-to s k, timeout-at (s .heads) k)
 
-  -- one head more
-  pub to-more : openTo s (k + 1) ≡ openTo s k ++ openAt s (suc k)
-  unfolding openTo
-  to-more = rw add-one
+-- the same of a search among the timeouts es beside a state
+module _ (s : State) (es : List ℕ) (r : es ≡ timeouts (s .heads)) (k : ℕ) where
+  beside : dueTo es (s .clock) (s .calendar) k ≡ openTo s k
+  beside = rw r (due-to s k)
 
--- ---- the search: nothing is due at the first k heads
+  pub quiet-beside : openTo s k ≡ [] → dueTo es (s .clock) (s .calendar) k ≡ []
+  quiet-beside e = beside ∙ e
 
-module _ (s : State) (n k : ℕ) (before : openTo s k ≡ []) where
-  pub found-none : k ≡ n → Advance ≡ firstDue s n
-  unfolding firstDue firstOr
-  found-none e = rw (← e, before)
+  pub quiet-of : dueTo es (s .clock) (s .calendar) k ≡ [] → openTo s k ≡ []
+  quiet-of e = sym beside ∙ e
 
-  -- what is due at the next head is the first that is due
-  found-at : k < n → (x : Step) (r : List Step) → openAt s (suc k) ≡ x ∷ r → x ≡ firstDue s n
-  unfolding firstDue firstOr openTo
-  found-at l x r e = let q = starts s n (suc k) (omega arith) x r (rw before e) in rw (q .1)
+  pub first-of : (x : Step) → x ≡ firstOr Advance (dueTo es (s .clock) (s .calendar) k) → x ≡ firstDue s k
+  unfolding firstDue
+  first-of x e = e ∙ ap (firstOr Advance) beside
 
-  pub found-timer : k < n → getD (s .heads) k noHead .timeout ≡ s .clock → Timer (k + 1) ≡ firstDue s n
-  unfolding openAt onlyIf
-  found-timer l e = rw add-one (found-at l (Timer (suc k)) (onlyIf (hearDue (s .clock) (s .calendar) (suc k)) (Hear (suc k))) (rw (timer-now s k e)))
+module _ (es : List ℕ) (clock : ℕ) (c : Calendar) where
+  -- what is first at heads 1 to k is first at heads 1 to n
+  starts : (n k : ℕ) → k ≤ n → (x : Step) (r : List Step) → dueTo es clock c k ≡ x ∷ r → (q : List Step) × (dueTo es clock c n ≡ x ∷ q)
+  unfolding dueTo
+  starts zero k l x r e = (r, let z : k ≡ 0 = omega arith in rw z at e)
+  starts (suc n) k l x r e = elim (same? k (suc n)) [
+    | inl z ↦ (r, rw z at e)
+    | inr z ↦ let q = starts n k (omega arith) x r e in
+        (q .0 ++ (onlyIf (eqb (getD es n 0) clock) (Timer (suc n)) ++ onlyIf (hearDue clock c (suc n)) (Hear (suc n))), rw (q .1))
+  ]
 
-  pub found-hear : k < n → (getD (s .heads) k noHead .timeout ≡ s .clock → ⊥) → hearDue (s .clock) (s .calendar) (k + 1) ≡ true → Hear (k + 1) ≡ firstDue s n
-  unfolding openAt onlyIf
-  found-hear l e h = rw add-one (found-at l (Hear (suc k)) [] (rw (timer-later s k e, rw add-one at h)))
+  -- nothing is due at the first k heads
+  module _ (n k : ℕ) (before : dueTo es clock c k ≡ []) where
+    pub found-none : k ≡ n → Advance ≡ firstOr Advance (dueTo es clock c n)
+    unfolding firstOr
+    found-none e = rw (← e, before)
 
-pub found-later : (s : State) (k : ℕ) → openTo s k ≡ [] → (getD (s .heads) k noHead .timeout ≡ s .clock → ⊥) → hearDue (s .clock) (s .calendar) (k + 1) ≡ false → openTo s (k + 1) ≡ []
-unfolding openAt onlyIf
-found-later s k before e h = to-more s k ∙ rw (before, timer-later s k e, rw add-one at h)
+    -- what is due at the next head is the first that is due
+    found-at : k < n → (x : Step) (r : List Step) → dueTo es clock c (suc k) ≡ x ∷ r → x ≡ firstOr Advance (dueTo es clock c n)
+    unfolding firstOr
+    found-at l x r e = let q = starts n (suc k) (omega arith) x r e in rw (q .1)
+
+    pub found-timer : k < n → getD es k 0 ≡ clock → Timer (k + 1) ≡ firstOr Advance (dueTo es clock c n)
+    unfolding dueTo onlyIf
+    found-timer l e = rw add-one (found-at l (Timer (suc k)) (onlyIf (hearDue clock c (suc k)) (Hear (suc k))) (rw (before, eq-eqb _ _ e)))
+
+    pub found-hear : k < n → (getD es k 0 ≡ clock → ⊥) → hearDue clock c (k + 1) ≡ true → Hear (k + 1) ≡ firstOr Advance (dueTo es clock c n)
+    unfolding dueTo onlyIf
+    found-hear l e h = rw add-one (found-at l (Hear (suc k)) [] (rw (before, ne-eqb _ _ e, rw add-one at h)))
+
+  pub found-later : (k : ℕ) → dueTo es clock c k ≡ [] → (getD es k 0 ≡ clock → ⊥) → hearDue clock c (k + 1) ≡ false → dueTo es clock c (k + 1) ≡ []
+  unfolding dueTo onlyIf
+  found-later k before e h = rw add-one (rw (before, ne-eqb _ _ e, rw add-one at h))
+
+  -- and so below the step that is found at place k
+  pub quiet-at : (k : ℕ) → k < maxHeads → dueTo es clock c k ≡ [] → dueTo es clock c (place (k + 1)) ≡ []
+  quiet-at k l e = let q : k + 1 - 1 ≡ k = omega arith in rw (place-in (k + 1) (omega arith) (omega arith), q) e
+
+  pub quiet-first : dueTo es clock c (place 0) ≡ []
+  unfolding dueTo
+  quiet-first = rw (← place-low 0 (omega arith))
 
 -- ---- runs: stopped, or on
 
@@ -112,12 +146,12 @@ module _ (t : Table) (s : State) (o : Outcome) where
 pub moved-fits : (t : Table) (s : State) (x : Step) → tableFits t ≡ true → stateFits t s ≡ true → stepRefusal t s x ≡ 0 → stateFits t (moved t s x) ≡ true
 moved-fits t s x f g e = let m = table-meets t f in meets-state t (moved t s x) (keeps t s x m (state-meets t s (m .heads) g) e)
 
-after-moved : (t : Table) (s u : State) (x : Step) → stepRefusal t s x ≡ 0 → u ≡ stateAfter t s x (stepRefusal t s x) → u ≡ moved t s x
-unfolding stateAfter
-after-moved t s u x e a = rw e at a
+pub still-fits : (t : Table) (s u : State) (x : Step) → tableFits t ≡ true → stateFits t s ≡ true → stepRefusal t s x ≡ 0 → u ≡ moved t s x → stateFits t u ≡ true
+still-fits t s u x f g e a = rw a (moved-fits t s x f g e)
 
-pub still-fits : (t : Table) (s u : State) (x : Step) → tableFits t ≡ true → stateFits t s ≡ true → stepRefusal t s x ≡ 0 → u ≡ stateAfter t s x (stepRefusal t s x) → stateFits t u ≡ true
-still-fits t s u x f g e a = rw (after-moved t s u x e a) (moved-fits t s x f g e)
+-- the timeouts beside a state whose head at a place is stored anew
+pub still-beside : (es : List ℕ) (hs : List Head) (k : ℕ) (h : Head) → es ≡ timeouts hs → set es k (h .timeout) ≡ timeouts (set hs k h)
+still-beside es hs k h e = rw e (timeouts-set hs k h)
 
 -- ---- a run of given steps: what is left of it at the byte i, after k accepted steps
 
@@ -142,9 +176,9 @@ module _ (t : Table) (s : State) (k i : ℕ) (l : List ℕ) where
 
 -- the same against the whole run o
 module _ (t : Table) (s : State) (k i : ℕ) (l : List ℕ) {o : Outcome} (before : runFrom t s k (drop i l) ≡ o) where
-  pub run-on : i + 1 < length l → (x : Step) → x ≡ stepOf (getD l i 0) (getD l (i + 1) 0) → (u : State) → u ≡ stateAfter t s x (stepRefusal t s x) → stepRefusal t s x ≡ 0
+  pub run-on : i + 1 < length l → (x : Step) → x ≡ stepOf (getD l i 0) (getD l (i + 1) 0) → (u : State) → u ≡ moved t s x → stepRefusal t s x ≡ 0
       → runFrom t u (k + 1) (drop (i + 2) l) ≡ o
-  run-on h x e u a z = rw (after-moved t s u x z a) (sym (run-step t s k i l h x e ∙ on-goes s k _ _ z) ∙ before)
+  run-on h x e u a z = rw a (sym (run-step t s k i l h x e ∙ on-goes s k _ _ z) ∙ before)
 
   pub run-refused : i + 1 < length l → (x : Step) → x ≡ stepOf (getD l i 0) (getD l (i + 1) 0) → (n : ℕ) → n ≡ stepRefusal t s x → (stepRefusal t s x ≡ 0 → ⊥) → stopped s k n ≡ o
   run-refused h x e n r z = ap (stopped s k) r ∙ sym (run-step t s k i l h x e ∙ on-stops s k _ _ z) ∙ before
@@ -155,6 +189,26 @@ module _ (t : Table) (s : State) (k i : ℕ) (l : List ℕ) {o : Outcome} (befor
   pub run-done : length l ≤ i → stopped s k 0 ≡ o
   run-done h = sym (run-none t s k i l h) ∙ before
 
+-- ---- a run by the policy: only the ceiling stops the step that the search finds
+
+module _ (t : Table) (s : State) (f : tableFits t ≡ true) (g : stateFits t s ≡ true) (es : List ℕ) (r : es ≡ timeouts (s .heads)) (x : Step) (later : ℕ) (b : later ≡ clockAfter es (t .n) (s .clock) (s .calendar) x) where
+  comes-to : later ≡ clockAfter (timeouts (s .heads)) (t .n) (s .clock) (s .calendar) x
+  comes-to = rw r at b
+
+  pub policy-free : x ≡ firstDue s (t .n) → later ≤ ceiling → stepRefusal t s x ≡ 0
+  policy-free e l = let m = table-meets t f in rw e (first-free t s m (state-meets t s (m .heads) g) later (comes-to ∙ ap (clockAfter (timeouts (s .heads)) (t .n) (s .clock) (s .calendar)) e) l)
+
+  pub policy-high : ceiling < later → stepRefusal t s x ≡ 0 → ⊥
+  policy-high l = let m = table-meets t f in first-high t s m (state-meets t s (m .heads) g) later x comes-to l
+
+-- the next search starts at the step's place: nothing is due below it
+module _ (t : Table) (x : Step) (i at : ℕ) (p : i ≡ headNumber x) (q : at ≡ place i) where
+  pub starts-within : (clock : ℕ) → Ready t clock x → at ≤ t .n
+  starts-within clock d = let l = place-within t clock x d in omega (arith, q ∙ ap place p)
+
+  pub starts-quiet : tableFits t ≡ true → (s u : State) → openTo s (place (headNumber x)) ≡ [] → u ≡ moved t s x → openTo u at ≡ []
+  starts-quiet f s u e m = rw (m, q, p) (nothing-below t s x (table-meets t f .propagation) e)
+
 -- ---- a run by the policy: what is left of it after k of n steps
 
 module _ (t : Table) (s : State) (f : tableFits t ≡ true) (g : stateFits t s ≡ true) (k n : ℕ) {o : Outcome} (before : policyFrom t s k (n - k) ≡ o) where
@@ -162,12 +216,12 @@ module _ (t : Table) (s : State) (f : tableFits t ≡ true) (g : stateFits t s �
   unfolding policyFrom
   policy-turn l = let e : n - k ≡ suc (n - (k + 1)) = omega arith in rw (add-one k) (rw (e, add-one k) at before)
 
-  pub policy-on : k < n → (x : Step) → x ≡ firstDue s (t .n) → (u : State) → u ≡ stateAfter t s x (stepRefusal t s x) → stepRefusal t s x ≡ 0 → policyFrom t u (k + 1) (n - (k + 1)) ≡ o
+  pub policy-on : k < n → (x : Step) → x ≡ firstDue s (t .n) → (u : State) → u ≡ moved t s x → stepRefusal t s x ≡ 0 → policyFrom t u (k + 1) (n - (k + 1)) ≡ o
   unfolding onFirst
   policy-on l x e u a z =
       let m = table-meets t f in
       let r = first-open t s m (state-meets t s (m .heads) g) (rw e at z) in
-      rw (after-moved t s u x z a, e) (rw (r .1) at (policy-turn l))
+      rw (a, e) (rw (r .1) at (policy-turn l))
 
   pub policy-stuck : k < n → (x : Step) → x ≡ firstDue s (t .n) → (stepRefusal t s x ≡ 0 → ⊥) → stopped s k 0 ≡ o
   unfolding onFirst

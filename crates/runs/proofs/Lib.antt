@@ -1,5 +1,6 @@
 pub mod Opens
 pub mod Gathers
+pub mod Below
 pub mod Laws
 pub mod Lists
 pub mod Plays

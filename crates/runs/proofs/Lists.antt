@@ -13,15 +13,19 @@ use Rattle.rules.specs.declared.State.{State}
 use Rattle.rules.specs.declared.Table.{Table}
 use Rattle.rules.specs.Table.{tableFits}
 use Rattle.rules.specs.State.{stateFits}
-use Rattle.rules.specs.Judge.{stepRefusal, recordRefusal}
+use Rattle.rules.specs.Limits.{ceiling}
+use Rattle.rules.specs.Step.{nextInstant}
+use Rattle.rules.specs.Judge.{recordRefusal}
 use Rattle.rules.proofs.Meaning.{table-meets, state-meets}
 use Rattle.runs.specs.declared.listing.Pairs.{Pairs}
 use Rattle.runs.specs.Open.{onlyIf, openTo, openSteps, stepBytes}
 use Rattle.rules.specs.Room.{bytesWritten, roomAfter}
 use Rattle.rules.proofs.Rooms.{write-unfit, write-fits, wrote-none, wrote-short, wrote-image}
 use Rattle.runs.specs.Listing.{listImage, listRefusal}
-use Rattle.runs.specs.Gathered.{Holds}
-use Rattle.runs.proofs.Opens.{open-due, open-advance, open-none}
+use Rattle.steps.specs.Parts.{timeouts, instant}
+use Rattle.steps.proofs.Parts.{instant-is}
+use Rattle.runs.specs.Gathered.{Holds, Adds}
+use Rattle.runs.proofs.Opens.{open-due, open-high, open-low}
 
 -- ---- what is open, from what is due
 
@@ -42,17 +46,22 @@ module _ (t : Table) (s : State) (f : tableFits t ≡ true) (g : stateFits t s �
       go [] e = e
       go (x ∷ rest) e = let n = h .long ∙ ap (λ (y : List Step). length (stepBytes y)) e in absurd (omega arith)
 
-  pub pairs-none : p .used ≤ 0 → (stepRefusal t s Advance ≡ 0 → ⊥) → Holds p (openSteps t s)
-  pairs-none l z =
-      let m = table-meets t f in
-      let e = nothing-due l in
-      subst (Holds p) (e ∙ sym (open-none t s m (state-meets t s (m .heads) g) e z)) h
+  -- and by the next instant, as the code has it of the timeouts es
+  module _ (es : List ℕ) (r : es ≡ timeouts (s .heads)) (next : ℕ) (q : next ≡ instant es (t .n) (s .calendar)) where
+    is-next : next ≡ nextInstant t s
+    is-next = q ∙ ap (λ (x : List ℕ). instant x (t .n) (s .calendar)) r ∙ instant-is t s
 
-  pub pairs-advance : p .used ≤ 0 → stepRefusal t s Advance ≡ 0 → (q : Pairs) → Holds q (openTo s (t .n) ++ onlyIf true Advance) → Holds q (openSteps t s)
-  pairs-advance l z q k =
-      let m = table-meets t f in
-      let e = nothing-due l in
-      subst (Holds q) (ap (λ (x : List Step). x ++ onlyIf true Advance) e ∙ sym (open-advance t s m (state-meets t s (m .heads) g) e z)) k
+    pub pairs-none : p .used ≤ 0 → ceiling < next → Holds p (openSteps t s)
+    pairs-none l z =
+        let m = table-meets t f in
+        let e = nothing-due l in
+        subst (Holds p) (e ∙ sym (open-high t s m (state-meets t s (m .heads) g) e (rw is-next at z))) h
+
+    pub pairs-advance : p .used ≤ 0 → next ≤ ceiling → (u : Pairs) → Adds p true Advance u → Holds u (openSteps t s)
+    pairs-advance l z u k =
+        let m = table-meets t f in
+        let e = nothing-due l in
+        subst (Holds u) (ap (λ (x : List Step). x ++ onlyIf true Advance) e ∙ sym (open-low t s m (state-meets t s (m .heads) g) e (rw is-next at z))) (k (openTo s (t .n)) h)
 
 -- ---- what the list answers, and what the room then holds
 

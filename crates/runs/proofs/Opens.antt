@@ -3,7 +3,7 @@ use mathlib.Core.Path.{_≡_, refl, sym, ap, subst, _∙_}
 use mathlib.Core.Bool.{Bool, true, false, _&&_}
 use mathlib.Core.List.{List, [], _∷_, _++_, List·Memᴰ, List·Memᴰ·head, List·Memᴰ·tail, List·Memᴰ·not-nil, List·Memᴰ·append-cases, Memᴰ·append-left, Memᴰ·append-right}
 use mathlib.Core.Logic.{_⊎_, inl, inr}
-use Prim.Native.Nat.{ℕ, zero, suc, _≤_}
+use Prim.Native.Nat.{ℕ, zero, suc, _≤_, _<_}
 use native.Mathlib.Omega.{arith}
 use lib.Dec.{eqb, leb}
 use borrow.Author.Tests.{eqb-true, leb-true, eq-eqb, le-leb, lt-leb}
@@ -20,6 +20,8 @@ use Rattle.rules.specs.Judge.{stepRefusal}
 use Rattle.rules.specs.Conditions.{TableMeets, Hears, StateMeets, Due, a-timer, a-delivery, Enabled}
 use Rattle.rules.proofs.Each.{same?, less?, and-true, both, either?, not-both}
 use Rattle.rules.proofs.Meaning.{hears-is, is-hears, table-meets, state-meets}
+use Rattle.steps.specs.Parts.{timeouts, clockAfter}
+use Rattle.steps.proofs.Parts.{instant-is}
 use Rattle.rules.proofs.Moves.{next-least, due-is, is-due}
 use Rattle.exact.proofs.Enabled.{next-low, enabled-is, is-enabled, accepted-exactly}
 use Rattle.runs.specs.Claims.{ListedExactly, Before, InOrder, order-none, order-first, ListedInOrder, EachOnce, once-none, once-first, ListedOnce, SearchFirst}
@@ -134,6 +136,14 @@ module _ (t : Table) (s : State) (f : TableMeets t) (m : StateMeets t s) where
         | inr l ↦ absurd (a (is-enabled t s f m Advance (λ d. not-both (due t s) (is-due t s d) (none-due e), (nextInstant t s, (next-least t s (f .some-head), l)))))
       ]
 
+  -- nothing is due: by the next instant
+  pub open-high : openTo s (t .n) ≡ [] → ceiling < nextInstant t s → openSteps t s ≡ []
+  unfolding onlyIf
+  open-high e l = when-calm (none-due e) ∙ ap (λ (b : Bool). onlyIf b Advance) (lt-leb _ _ l)
+
+  pub open-low : openTo s (t .n) ≡ [] → nextInstant t s ≤ ceiling → openSteps t s ≡ onlyIf true Advance
+  open-low e l = when-calm (none-due e) ∙ ap (λ (b : Bool). onlyIf b Advance) (le-leb _ _ l)
+
   -- so a step is in it just where it is enabled
   open-enabled : (x : Step) → List·Memᴰ x (openSteps t s) → Enabled t s x
   unfolding Enabled
@@ -200,15 +210,6 @@ listed-once t s = order-once (listed-in-order t s)
 
 -- ---- the first of them
 
--- what is first at heads 1 to k is first at heads 1 to n
-pub starts : (s : State) (n k : ℕ) → k ≤ n → (x : Step) (r : List Step) → openTo s k ≡ x ∷ r → (q : List Step) × (openTo s n ≡ x ∷ q)
-unfolding openTo
-starts s zero k l x r e = (r, let z : k ≡ 0 = omega arith in rw z at e)
-starts s (suc n) k l x r e = elim (same? k (suc n)) [
-  | inl z ↦ (r, rw z at e)
-  | inr z ↦ let q = starts s n k (omega arith) x r e in (q .0 ++ openAt s (suc n), rw (q .1))
-]
-
 -- a search of the heads finds the first step of the list, where there is one, and otherwise a step that is refused
 module _ (t : Table) (s : State) (f : TableMeets t) (m : StateMeets t s) where
   pub first-open : stepRefusal t s (firstDue s (t .n)) ≡ 0 → (rest : List Step) × (openSteps t s ≡ firstDue s (t .n) ∷ rest)
@@ -226,6 +227,22 @@ module _ (t : Table) (s : State) (f : TableMeets t) (m : StateMeets t s) where
       go : (l : List Step) → openTo s (t .n) ≡ l → openSteps t s ≡ []
       go [] q = open-none t s f m q (rw q at n)
       go (x ∷ rest) q = absurd (n (rw q (open-accepted t s f m x (subst (List·Memᴰ x) (sym (open-due t s f m x rest q ∙ q)) (List·Memᴰ·head refl)))))
+
+-- whether it is refused, by the clock that it comes to: only an advance can pass the ceiling
+module _ (t : Table) (s : State) (f : TableMeets t) (m : StateMeets t s) (later : ℕ) where
+  pub first-free : later ≡ clockAfter (timeouts (s .heads)) (t .n) (s .clock) (s .calendar) (firstDue s (t .n)) → later ≤ ceiling → stepRefusal t s (firstDue s (t .n)) ≡ 0
+  unfolding firstDue firstOr clockAfter Enabled
+  first-free e l = go (openTo s (t .n)) refl
+    where
+      go : (q : List Step) → openTo s (t .n) ≡ q → stepRefusal t s (firstOr Advance (openTo s (t .n))) ≡ 0
+      go [] q = rw q (is-enabled t s f m Advance (λ d. not-both (due t s) (is-due t s d) (none-due t s f m q), (nextInstant t s, (next-least t s (f .some-head), rw (← instant-is t s) (rw (← (rw q at e)) l)))))
+      go (x ∷ rest) q = rw q (open-accepted t s f m x (subst (List·Memᴰ x) (sym (open-due t s f m x rest q ∙ q)) (List·Memᴰ·head refl)))
+
+pub first-high : (t : Table) (s : State) (f : TableMeets t) (m : StateMeets t s) (later : ℕ) (x : Step) → later ≡ clockAfter (timeouts (s .heads)) (t .n) (s .clock) (s .calendar) x → ceiling < later → stepRefusal t s x ≡ 0 → ⊥
+unfolding clockAfter Enabled
+first-high t s f m later Advance e l z = let n = next-low t s (enabled-is t s f m Advance z .1) in let i = instant-is t s in omega arith
+first-high t s f m later (Timer i) e l z = let w = m .clock in omega arith
+first-high t s f m later (Hear i) e l z = let w = m .clock in omega arith
 
 pub search-first : SearchFirst
 search-first t s x rest p q e =

@@ -12,6 +12,9 @@ use Rattle.runs.specs.Open.{onlyIf, stepBytes}
 abbrev pub mostBytes : ℕ
 mostBytes = 256
 
+abbrev pub gathered : List ℕ → ℕ → Pairs
+gathered bytes used = record { bytes = bytes; used = used }
+
 -- the pairs hold these steps and nothing else
 pub record Holds (p : Pairs) (l : List Step) : Type 0 where
   pub places : length (p .bytes) ≡ mostBytes

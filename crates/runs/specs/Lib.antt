@@ -1,4 +1,5 @@
 pub mod Open
+pub mod Search
 pub mod Listing
 pub mod Gathered
 pub mod Run

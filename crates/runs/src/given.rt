@@ -3,6 +3,12 @@ use crate::Ran;
 use crate::stopped;
 use rules::State;
 use rules::Table;
+use steps::calendar_after;
+use steps::clock_after;
+use steps::head_after;
+use steps::place;
+use steps::timeouts;
+use steps::verdict;
 use words::Refusal;
 use words::Step;
 use words::Verdict;
@@ -23,23 +29,33 @@ pub fn run_given(t: Table, s: State, pairs: &[u8]) -> Ran
     run_from(t, s, pairs)
 }
 
-// The run itself, on a table and a state that fit.
+// The run itself, on a table and a state that fit. The state is kept in place, and its timeouts beside it: a step changes the clock,
+// the calendar and one head.
 fn run_from(t: Table, s: State, pairs: &[u8]) -> Ran
     requires { ⌜ (tableFits t ≡ true) × (stateFits t s ≡ true) ⌝ }
     ensures { λ r. ⌜ told r ≡ runFrom t s 0 (now (pairs .entry)) ⌝ }
 {
     let mut current = s;
+    let mut all = timeouts(s);
     let mut accepted: usize = 0;
     let mut k: usize = 0;
     while k + 1 < pairs.len() {
         let x = Step::read(pairs[k], pairs[k + 1]);
-        let out = steps::attempt(t, current, x);
-        let v = out.verdict;
+        let clock = current.clock;
+        let c = current.calendar;
+        let at = place(x.head());
+        let h = current.heads[at];
+        let later = clock_after(&all, t.n, clock, c, x);
+        let v = verdict(t, clock, later, c, h, x);
         let Verdict::Accepted = v else {
             return stopped(current, accepted, v);
         };
-        let next = out.state;
-        current = next;
+        let after = calendar_after(t, clock, c, h, x);
+        let moved = head_after(t, clock, c, h, x);
+        current.clock = later;
+        current.calendar = after;
+        current.heads[at] = moved;
+        all[at] = moved.timeout;
         accepted += 1;
         k += 2;
     }

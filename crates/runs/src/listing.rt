@@ -3,6 +3,8 @@ use crate::search::hear_due;
 use rules::State;
 use rules::Table;
 use rules::Written;
+use steps::instant;
+use steps::timeouts;
 use words::Refusal;
 use words::Step;
 use words::Verdict;
@@ -17,7 +19,7 @@ ghost use Rattle.rules.specs.State.{stateFits};
 ghost use Rattle.runs.specs.Open.{openTo, openSteps};
 ghost use Rattle.rules.specs.Room.{bytesWritten, roomAfter};
 ghost use Rattle.runs.specs.Listing.{listImage, listRefusal};
-ghost use Rattle.runs.specs.Gathered.{mostBytes, Holds, Adds};
+ghost use Rattle.runs.specs.Gathered.{mostBytes, gathered, Holds, Adds};
 
 // Steps in bytes, gathered before any is written to the room: the first used bytes hold them. Sixty-four heads have at most two steps
 // each, of two bytes.
@@ -63,12 +65,17 @@ fn open_pairs(t: Table, s: State) -> Pairs
     if 0 < found.used {
         return found;
     }
-    let out = steps::attempt(t, s, Step::Advance);
-    let v = out.verdict;
-    let Verdict::Accepted = v else {
+    let all = timeouts(s);
+    let c = s.calendar;
+    if State::CEILING < instant(&all, t.n, c) {
         return found;
-    };
-    with_step(found, true, Step::Advance)
+    }
+    let mut bytes = found.bytes;
+    let used = with_step(&mut bytes, found.used, true, Step::Advance);
+    Pairs {
+        bytes: bytes,
+        used: used,
+    }
 }
 
 // What is due, heads rising, timer before hear for one head.
@@ -77,36 +84,33 @@ fn due_pairs(s: State, n: u8) -> Pairs
     ensures { λ r. ⌜ Holds r (openTo s n) ⌝ }
 {
     let c = s.calendar;
-    let mut found = Pairs {
-        bytes: [0; 256],
-        used: 0,
-    };
+    let mut bytes = [0u8; 256];
+    let mut used: usize = 0;
     let mut i: u8 = 0;
     while i < n {
         let timer = s.heads[i as usize].timeout == s.clock;
+        used = with_step(&mut bytes, used, timer, Step::Timer(i + 1));
         let hear = hear_due(s.clock, c, i + 1);
-        let timed = with_step(found, timer, Step::Timer(i + 1));
-        let heard = with_step(timed, hear, Step::Hear(i + 1));
-        found = heard;
+        used = with_step(&mut bytes, used, hear, Step::Hear(i + 1));
         i += 1;
     }
-    found
+    Pairs {
+        bytes: bytes,
+        used: used,
+    }
 }
 
-// The pairs with one more step at their end, where a test holds.
-fn with_step(p: Pairs, ok: bool, x: Step) -> Pairs
-    requires { ⌜ p .used + 2 ≤ mostBytes ⌝ }
-    ensures { λ r. ⌜ Adds p ok x r ⌝ }
+// One more step at the end of what is used, where a test holds; answers how much is used then.
+fn with_step(bytes: &mut [u8; 256], used: usize, ok: bool, x: Step) -> usize
+    requires { ⌜ used + 2 ≤ mostBytes ⌝ }
+    ensures { λ r. ⌜ Adds (gathered (now (bytes .entry)) used) ok x (gathered (now (bytes .exit)) r) ⌝ }
 {
     if !ok {
-        return p;
+        return used;
     }
-    let k = p.used;
-    let mut q = p;
-    q.bytes[k] = x.kind();
-    q.bytes[k + 1] = x.head();
-    q.used = k + 2;
-    q
+    bytes[used] = x.kind();
+    bytes[used + 1] = x.head();
+    used + 2
 }
 
 // The used bytes at the front of the room.

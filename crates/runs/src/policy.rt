@@ -4,6 +4,11 @@ use crate::search::first_due;
 use crate::stopped;
 use rules::State;
 use rules::Table;
+use steps::calendar_after;
+use steps::clock_after;
+use steps::head_after;
+use steps::place;
+use steps::timeouts;
 use words::Verdict;
 ghost use mathlib.Core.Path.{_≡_};
 ghost use mathlib.Core.Bool.{true};
@@ -26,23 +31,34 @@ pub fn run_policy(t: Table, s: State, count: usize) -> Ran
     policy_from(t, s, count)
 }
 
-// The run itself, on a table and a state that fit. Where nothing is due the search yields advance, and the only refusal that is left
-// is the ceiling's: the list is empty.
+// The run itself, on a table and a state that fit. The state is kept in place, and its timeouts beside it. A step leaves nothing due
+// at heads below the one that moved, so the next search starts there; where nothing is due the search yields advance, and only the
+// ceiling can stop that.
 fn policy_from(t: Table, s: State, count: usize) -> Ran
     requires { ⌜ (tableFits t ≡ true) × (stateFits t s ≡ true) ⌝ }
     ensures { λ r. ⌜ told r ≡ policyFrom t s 0 count ⌝ }
 {
     let mut current = s;
+    let mut all = timeouts(s);
     let mut taken: usize = 0;
+    let mut from: usize = 0;
     while taken < count {
-        let x = first_due(current, t.n);
-        let out = steps::attempt(t, current, x);
-        let v = out.verdict;
-        let Verdict::Accepted = v else {
+        let clock = current.clock;
+        let c = current.calendar;
+        let x = first_due(&all, clock, c, from, t.n);
+        let later = clock_after(&all, t.n, clock, c, x);
+        if State::CEILING < later {
             break;
-        };
-        let next = out.state;
-        current = next;
+        }
+        let at = place(x.head());
+        let h = current.heads[at];
+        let after = calendar_after(t, clock, c, h, x);
+        let moved = head_after(t, clock, c, h, x);
+        current.clock = later;
+        current.calendar = after;
+        current.heads[at] = moved;
+        all[at] = moved.timeout;
+        from = at;
         taken += 1;
     }
     stopped(current, taken, Verdict::Accepted)

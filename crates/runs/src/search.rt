@@ -1,11 +1,14 @@
 // The search for the first due step.
 use rules::Calendar;
-use rules::State;
 use words::Step;
 ghost use mathlib.Core.Path.{_≡_};
 ghost use Prim.Native.Nat.{_≤_};
+ghost use Rattle.words.specs.Pair.{headNumber};
 ghost use Rattle.rules.specs.Calendar.{hearDue};
-ghost use Rattle.runs.specs.Open.{firstDue};
+ghost use mathlib.Core.List.{[]};
+ghost use Rattle.steps.specs.Parts.{place};
+ghost use Rattle.runs.specs.Open.{firstOr};
+ghost use Rattle.runs.specs.Search.{dueTo};
 
 // Whether head i hears the frame now.
 pub fn hear_due(clock: u32, c: Calendar, i: u8) -> bool
@@ -18,22 +21,22 @@ pub fn hear_due(clock: u32, c: Calendar, i: u8) -> bool
     hearers::has(c.hearers, i)
 }
 
-// The first due step of heads 1 to n, timer before hear for one head; advance where nothing is due.
-pub fn first_due(s: State, n: u8) -> Step
-    requires { ⌜ n ≤ 64 ⌝ }
-    ensures { λ r. ⌜ r ≡ firstDue s n ⌝ }
+// The first due step of heads 1 to n, timer before hear for one head, where nothing is due at the first places; advance where
+// nothing is due at all.
+pub fn first_due(timeouts: &[u32; 64], clock: u32, c: Calendar, from: usize, n: u8) -> Step
+    requires { ⌜ (from ≤ n) × (n ≤ 64) × (dueTo (now timeouts) clock c from ≡ []) ⌝ }
+    ensures first { λ r. ⌜ r ≡ firstOr Step.Advance (dueTo (now (timeouts .entry)) clock c n) ⌝ }
+    ensures quiet { λ r. ⌜ dueTo (now (timeouts .entry)) clock c (place (headNumber r)) ≡ [] ⌝ }
 {
-    let c = s.calendar;
-    let mut i: u8 = 0;
+    let mut i = from as u8;
     let found = loop {
         if i == n {
             break Step::Advance;
         }
-        let k = i as usize;
-        if s.heads[k].timeout == s.clock {
+        if timeouts[i as usize] == clock {
             break Step::Timer(i + 1);
         }
-        if hear_due(s.clock, c, i + 1) {
+        if hear_due(clock, c, i + 1) {
             break Step::Hear(i + 1);
         }
         i += 1;

@@ -1,29 +1,23 @@
 // The clock moves to the next instant.
-use crate::accepted;
-use crate::refused;
-use rules::Judged;
+use rules::Calendar;
 use rules::State;
-use rules::Table;
 use words::Refusal;
 use words::Step;
+use words::Verdict;
 ghost use mathlib.Core.Path.{_≡_};
-ghost use mathlib.Core.Bool.{true};
 ghost use Prim.Native.Nat.{_≤_};
 ghost use Rattle.words.specs.Refusal.{verdictNumber};
-ghost use Rattle.rules.specs.Table.{tableFits};
-ghost use Rattle.rules.specs.State.{stateFits};
-ghost use Rattle.rules.specs.Step.{leastTimeout, nextInstant};
-ghost use Rattle.rules.specs.Judge.{stepRefusal, stateAfter};
+ghost use Rattle.steps.specs.Parts.{least, instant, clockAfter, advanceRefusal};
 
-// The least timeout of heads 1 to n.
-fn least_timeout(s: State, n: u8) -> u32
+// The least of the first n timeouts.
+fn least(timeouts: &[u32; 64], n: u8) -> u32
     requires { ⌜ (1 ≤ n) × (n ≤ 64) ⌝ }
-    ensures { λ r. ⌜ r ≡ leastTimeout s n ⌝ }
+    ensures { λ r. ⌜ r ≡ least (now (timeouts .entry)) n ⌝ }
 {
-    let mut least = s.heads[0].timeout;
+    let mut least = timeouts[0];
     let mut k: u8 = 1;
     while k < n {
-        let e = s.heads[k as usize].timeout;
+        let e = timeouts[k as usize];
         if e < least {
             least = e;
         }
@@ -33,33 +27,41 @@ fn least_timeout(s: State, n: u8) -> u32
 }
 
 // The least timeout or, if hearers wait and it is earlier, the delivery tick.
-fn next_instant(t: Table, s: State) -> u32
-    requires { ⌜ (1 ≤ t .n) × (t .n ≤ 64) ⌝ }
-    ensures { λ r. ⌜ r ≡ nextInstant t s ⌝ }
+pub fn instant(timeouts: &[u32; 64], n: u8, c: Calendar) -> u32
+    requires { ⌜ (1 ≤ n) × (n ≤ 64) ⌝ }
+    ensures { λ r. ⌜ r ≡ instant (now (timeouts .entry)) n c ⌝ }
 {
-    let least = least_timeout(s, t.n);
-    if s.calendar.hearers == 0 {
-        return least;
+    let first = least(timeouts, n);
+    if c.hearers == 0 {
+        return first;
     }
-    if s.calendar.delivery < least {
-        return s.calendar.delivery;
+    if c.delivery < first {
+        return c.delivery;
     }
-    least
+    first
 }
 
-// In a state that fits, something is due exactly where the next instant is the present one, so one scan serves both tests.
-pub fn attempt(t: Table, s: State) -> Judged
-    requires { ⌜ (tableFits t ≡ true) × (stateFits t s ≡ true) ⌝ }
-    ensures { λ r. ⌜ (verdictNumber (r .verdict) ≡ stepRefusal t s Step.Advance) × (r .state ≡ stateAfter t s Step.Advance (stepRefusal t s Step.Advance)) ⌝ }
+// The clock after a step: only an advance moves it.
+pub fn clock_after(timeouts: &[u32; 64], n: u8, clock: u32, c: Calendar, x: Step) -> u32
+    requires { ⌜ (1 ≤ n) × (n ≤ 64) ⌝ }
+    ensures { λ r. ⌜ r ≡ clockAfter (now (timeouts .entry)) n clock c x ⌝ }
 {
-    let next = next_instant(t, s);
-    if next == s.clock {
-        return refused(s, Refusal::SomethingDue);
+    match x {
+        Step::Advance => instant(timeouts, n, c),
+        Step::Timer(_) => clock,
+        Step::Hear(_) => clock,
+    }
+}
+
+// In a state that fits, something is due exactly where the next instant is the present one, so one search serves both tests.
+pub fn verdict(clock: u32, next: u32) -> Verdict
+    ensures { λ r. ⌜ verdictNumber r ≡ advanceRefusal clock next ⌝ }
+{
+    if next == clock {
+        return Verdict::Refused(Refusal::SomethingDue);
     }
     if State::CEILING < next {
-        return refused(s, Refusal::PastCeiling);
+        return Verdict::Refused(Refusal::PastCeiling);
     }
-    let mut later = s;
-    later.clock = next;
-    accepted(later)
+    Verdict::Accepted
 }

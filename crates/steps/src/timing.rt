@@ -1,23 +1,14 @@
 // A head's timer: what it makes of the head, and which frame it sends.
-use crate::accepted;
-use crate::refused;
-use crate::sending::sends;
 use rules::Calendar;
 use rules::Head;
-use rules::Judged;
 use rules::Phase;
-use rules::State;
 use rules::Table;
 use words::Refusal;
-use words::Step;
+use words::Verdict;
 ghost use mathlib.Core.Path.{_≡_};
-ghost use mathlib.Core.Bool.{true};
-ghost use Prim.Native.Nat.{_≤_};
 ghost use Rattle.words.specs.Refusal.{verdictNumber};
-ghost use Rattle.rules.specs.Table.{tableFits};
-ghost use Rattle.rules.specs.State.{stateFits};
-ghost use Rattle.rules.specs.Step.{slotAfter, timerHead, timerFrame, timer};
-ghost use Rattle.rules.specs.Judge.{stepRefusal, stateAfter};
+ghost use Rattle.rules.specs.Step.{slotAfter, timerHead, timerFrame};
+ghost use Rattle.steps.specs.Parts.{timerRefusal};
 ghost use Rattle.steps.specs.Ready.{Sender};
 
 // The next slot: N is followed by 1.
@@ -31,7 +22,7 @@ fn slot_after(t: Table, k: u8) -> u8
 }
 
 // Head i after its timer, by its phase before.
-fn timer_head(t: Table, clock: u32, i: u8, p: Phase) -> Head
+pub fn timer_head(t: Table, clock: u32, i: u8, p: Phase) -> Head
     requires { ⌜ Sender t clock i ⌝ }
     ensures { λ r. ⌜ r ≡ timerHead t clock i p ⌝ }
 {
@@ -59,7 +50,7 @@ fn timer_head(t: Table, clock: u32, i: u8, p: Phase) -> Head
 }
 
 // The kind of frame that head i's timer sends, 0 for none.
-fn timer_frame(t: Table, i: u8, p: Phase) -> u8
+pub fn timer_frame(t: Table, i: u8, p: Phase) -> u8
     ensures { λ r. ⌜ r ≡ timerFrame t i p ⌝ }
 {
     match p {
@@ -76,36 +67,18 @@ fn timer_frame(t: Table, i: u8, p: Phase) -> u8
     }
 }
 
-// The timer of head i.
-fn timer(t: Table, s: State, i: u8) -> State
-    requires { ⌜ Sender t (s .clock) i ⌝ }
-    ensures { λ r. ⌜ r ≡ timer t s i ⌝ }
-{
-    let k = (i - 1) as usize;
-    let h = s.heads[k];
-    let p = h.phase;
-    let c = s.calendar;
-    let kind = timer_frame(t, i, p);
-    let after = sends(t, s.clock, kind, i, c);
-    let mut next = s;
-    next.calendar = after;
-    next.heads[k] = timer_head(t, s.clock, i, p);
-    next
-}
-
-pub fn attempt(t: Table, s: State, i: u8) -> Judged
-    requires { ⌜ (tableFits t ≡ true) × (stateFits t s ≡ true) ⌝ }
-    ensures { λ r. ⌜ (verdictNumber (r .verdict) ≡ stepRefusal t s (Step.Timer i)) × (r .state ≡ stateAfter t s (Step.Timer i) (stepRefusal t s (Step.Timer i))) ⌝ }
+// Whether head i's timer may go off.
+pub fn verdict(t: Table, clock: u32, h: Head, i: u8) -> Verdict
+    ensures { λ r. ⌜ verdictNumber r ≡ timerRefusal t clock h i ⌝ }
 {
     if i < 1 {
-        return refused(s, Refusal::NoSuchStep);
+        return Verdict::Refused(Refusal::NoSuchStep);
     }
     if t.n < i {
-        return refused(s, Refusal::NoSuchStep);
+        return Verdict::Refused(Refusal::NoSuchStep);
     }
-    let k = (i - 1) as usize;
-    if s.heads[k].timeout != s.clock {
-        return refused(s, Refusal::TimerNotDue);
+    if h.timeout != clock {
+        return Verdict::Refused(Refusal::TimerNotDue);
     }
-    accepted(timer(t, s, i))
+    Verdict::Accepted
 }

@@ -7,7 +7,7 @@ use Prim.Native.Nat.{_-_, _≤_}
 use Rattle.rules.specs.Limits.{maxHeads}
 use Rattle.rules.specs.Each.{every}
 use Rattle.rules.specs.State.{headOf, placeFits}
-use Rattle.rules.proofs.Checks.{heads-more, heads-fail}
+use Rattle.rules.proofs.Checks.{wake-after, heads-more, heads-fail}
 use Rattle.rules.proofs.states.heads_fit.Statement.{statement}
 use Rattle.rules.proofs.states.heads_fit.Tie as tie
 
@@ -27,6 +27,12 @@ mul-h c = search needs
 element-copy-out-h : tie.Need-element-copy-out-h Inv-loop μ-loop
 element-copy-out-h c = search needs
 
+mul-wake : tie.Need-mul-wake Inv-loop μ-loop
+mul-wake c = search needs
+
+element-copy-out-wake : tie.Need-element-copy-out-wake Inv-loop μ-loop
+element-copy-out-wake c = search needs
+
 cast-place-fits : tie.Need-cast-place-fits Inv-loop μ-loop
 cast-place-fits c = search needs
 
@@ -34,7 +40,7 @@ add-place-fits : tie.Need-add-place-fits Inv-loop μ-loop
 add-place-fits c = search needs
 
 place-fits-requires : tie.Need-place-fits-requires Inv-loop μ-loop
-place-fits-requires c κs = search needs
+place-fits-requires c κs = ((c .before .before .before .before .pre) .0, wake-after _ _, search needs, search needs, search needs)
 
 returns : tie.Need-returns Inv-loop μ-loop
 returns c = heads-fail _ _ _ _ _ (c .before .place-fits .ensures) (search needs) (not-true _ (c .if1 .taken))
@@ -46,7 +52,7 @@ loop-less : tie.Need-loop-less Inv-loop μ-loop
 loop-less c = search needs
 
 loop-again : tie.Need-loop-again Inv-loop μ-loop
-loop-again c = (search needs, heads-more _ _ _ _ _ (c .before .place-fits .ensures) (c .before .before .before .before .loop .inv .1) (not-false _ (c .if1 .left)))
+loop-again c = (search needs, heads-more _ _ _ _ _ ((c .before .place-fits) .ensures) ((c .before .before .before .before .before .loop) .inv .1) (not-false _ ((c .if1) .left)))
 
 returns-2 : tie.Need-returns-2 Inv-loop μ-loop
 returns-2 c = every-done _ _ _ (c .before .loop .inv .1) (search needs) (search needs)
@@ -60,6 +66,8 @@ heads-fit-spec =
     loop-holds
     mul-h
     element-copy-out-h
+    mul-wake
+    element-copy-out-wake
     cast-place-fits
     add-place-fits
     place-fits-requires

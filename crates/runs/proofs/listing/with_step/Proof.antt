@@ -5,28 +5,28 @@ use Rattle.runs.proofs.listing.with_step.Statement.{statement}
 use Rattle.runs.proofs.listing.with_step.Tie as tie
 
 returns : tie.Need-returns
-returns c = adds-none _ _ _ (not-true _ (c .if1 .taken))
+returns c = adds-none _ _ _ (not-true _ ((c .if1) .taken))
 
 kind-requires : tie.Need-kind-requires
 kind-requires c κs = search needs
 
-element-write-q : tie.Need-element-write-q
-element-write-q c = search needs
+element-write-bytes : tie.Need-element-write-bytes
+element-write-bytes c = search needs
 
 head-requires : tie.Need-head-requires
 head-requires c κs = search needs
 
-add-q : tie.Need-add-q
-add-q c = search needs
+add-bytes : tie.Need-add-bytes
+add-bytes c = search needs
 
-element-write-q-2 : tie.Need-element-write-q-2
-element-write-q-2 c = search needs
+element-write-bytes-2 : tie.Need-element-write-bytes-2
+element-write-bytes-2 c = search needs
 
-add-q-2 : tie.Need-add-q-2
-add-q-2 c = search needs
+add-result : tie.Need-add-result
+add-result c = search needs
 
 returns-2 : tie.Need-returns-2
-returns-2 c = adds-one _ _ _ (not-false _ (c .before .before .if1 .left)) (search needs) _ (c .before .kind .ensures) _ (c .head .ensures)
+returns-2 c = adds-one _ _ _ _ (not-false _ ((c .before .before .if1) .left)) (search needs) _ ((c .before .kind) .ensures) _ ((c .head) .ensures)
 
 pub with-step-spec : {M : Type 1} → statement M
 with-step-spec =
@@ -34,9 +34,9 @@ with-step-spec =
     (tie.spec
     returns
     kind-requires
-    element-write-q
+    element-write-bytes
     head-requires
-    add-q
-    element-write-q-2
-    add-q-2
+    add-bytes
+    element-write-bytes-2
+    add-result
     returns-2)

@@ -1,24 +1,26 @@
 use mathlib.Core.List.{[]}
-use mathlib.Core.Path.{_≡_, refl, sym, _∙_}
+use mathlib.Core.Path.{_≡_, sym, _∙_}
 use Prim.Native.Nat.{_-_, _≤_}
-use Rattle.runs.specs.Open.{openTo}
-use Rattle.runs.proofs.Laws.{found-none, found-timer, found-hear, found-later}
+use Rattle.runs.specs.Search.{dueTo}
+use Rattle.runs.proofs.Laws.{found-none, found-timer, found-hear, found-later, quiet-at, quiet-first}
 use borrow.Author.Needs.{needs}
 use Rattle.runs.proofs.search.first_due.Statement.{statement}
 use Rattle.runs.proofs.search.first_due.Tie as tie
 
 abbrev Inv-loop : tie.InvT-loop
-Inv-loop n s c i₀ i = (i ≤ n) × (n ≤ 64) × (openTo s i ≡ [])
+Inv-loop timeouts clock c from n i₀ i = (i ≤ n) × (n ≤ 64) × (dueTo timeouts clock c i ≡ [])
 
 abbrev μ-loop : tie.MeasureT-loop
-μ-loop n s c i₀ i = n - i
+μ-loop timeouts clock c from n i₀ i = n - i
+
+cast-i : tie.Need-cast-i Inv-loop μ-loop
+cast-i c = search needs
 
 loop-holds : tie.Need-loop-holds Inv-loop μ-loop
-unfolding openTo
-loop-holds c = (search needs, search needs, refl)
+loop-holds c = (search needs, search needs, ((c .pre) .2))
 
-cast-k : tie.Need-cast-k Inv-loop μ-loop
-cast-k c = search needs
+cast-if2 : tie.Need-cast-if2 Inv-loop μ-loop
+cast-if2 c = search needs
 
 mul-if2 : tie.Need-mul-if2 Inv-loop μ-loop
 mul-if2 c = search needs
@@ -45,16 +47,16 @@ loop-less : tie.Need-loop-less Inv-loop μ-loop
 loop-less c = search needs
 
 loop-again : tie.Need-loop-again Inv-loop μ-loop
-loop-again c = (search needs, search needs, found-later _ _ (c .before .before .before .before .loop .inv .2) (search needs) (sym (c .before .hear-due .ensures) ∙ c .if3 .left))
+loop-again c = (search needs, search needs, found-later _ _ _ _ ((c .before .before .before .before .before .loop) .inv .2) (search needs) (sym ((c .before .hear-due) .ensures) ∙ (c .if3) .left))
 
 returns : tie.Need-returns Inv-loop μ-loop
-returns c = found-none _ _ _ (c .before .loop .inv .2) (search needs)
+returns c = (found-none _ _ _ _ _ ((c .before .loop) .inv .2) (search needs), quiet-first _ _ _)
 
 returns-2 : tie.Need-returns-2 Inv-loop μ-loop
-returns-2 c = found-timer _ _ _ (c .before .before .loop .inv .2) (search needs) (search needs)
+returns-2 c = (found-timer _ _ _ _ _ ((c .before .before .before .loop) .inv .2) (search needs) (search needs), quiet-at _ _ _ _ (search needs) ((c .before .before .before .loop) .inv .2))
 
 returns-3 : tie.Need-returns-3 Inv-loop μ-loop
-returns-3 c = found-hear _ _ _ (c .before .before .before .before .loop .inv .2) (search needs) (search needs) (sym (c .before .hear-due .ensures) ∙ c .if3 .taken)
+returns-3 c = (found-hear _ _ _ _ _ ((c .before .before .before .before .before .loop) .inv .2) (search needs) (search needs) (sym ((c .before .hear-due) .ensures) ∙ (c .if3) .taken), quiet-at _ _ _ _ (search needs) ((c .before .before .before .before .before .loop) .inv .2))
 
 pub first-due-spec : {M : Type 1} → statement M
 first-due-spec =
@@ -62,8 +64,9 @@ first-due-spec =
     (tie.spec
     Inv-loop
     μ-loop
+    cast-i
     loop-holds
-    cast-k
+    cast-if2
     mul-if2
     element-copy-out-if2
     add-t15

@@ -2,17 +2,17 @@ use mathlib.Core.Path.{_≡_, ap, _∙_}
 use Prim.Native.Nat.{ℕ, _-_, _≤_}
 use native.Mathlib.Omega.{arith}
 use mathlib.Core.Logic.{⊎-elim}
-use Rattle.rules.specs.Step.{leastTimeout}
+use Rattle.steps.specs.Parts as parts
 use Rattle.steps.proofs.Laws.{least-one, least-less, least-same}
 use borrow.Author.Needs.{needs}
-use Rattle.steps.proofs.advancing.least_timeout.Statement.{statement}
-use Rattle.steps.proofs.advancing.least_timeout.Tie as tie
+use Rattle.steps.proofs.advancing.least.Statement.{statement}
+use Rattle.steps.proofs.advancing.least.Tie as tie
 
 abbrev Inv-loop : tie.InvT-loop
-Inv-loop n s least₀ k₀ least k = (1 ≤ k) × (k ≤ n) × (n ≤ 64) × (least ≡ leastTimeout s k)
+Inv-loop es n least₀ k₀ least k = (1 ≤ k) × (k ≤ n) × (n ≤ 64) × (least ≡ parts.least es k)
 
 abbrev μ-loop : tie.MeasureT-loop
-μ-loop n s least₀ k₀ least k = n - k
+μ-loop es n least₀ k₀ least k = n - k
 
 element-copy-out-least : tie.Need-element-copy-out-least Inv-loop μ-loop
 element-copy-out-least c = search needs
@@ -40,14 +40,14 @@ loop-again c = (
   search needs,
   search needs,
   search needs,
-  ⊎-elim (λ w. w .1 ∙ least-less _ _ _ (c .before .before .loop .inv .3) (w .0 .taken)) (λ w. w .1 ∙ least-same _ _ _ (c .before .before .loop .inv .3) (w .0 .left)) (c .if1 .came),
+  ⊎-elim (λ w. w .1 ∙ least-less _ _ _ (c .before .before .before .loop .inv .3) (w .0 .taken)) (λ w. w .1 ∙ least-same _ _ _ (c .before .before .before .loop .inv .3) (w .0 .left)) (c .if1 .came),
 )
 
 returns : tie.Need-returns Inv-loop μ-loop
-returns c = c .before .loop .inv .3 ∙ ap (λ (k : ℕ). leastTimeout (c .before .before .args .t1) k) (omega arith)
+returns c = c .before .loop .inv .3 ∙ ap (λ (k : ℕ). parts.least (c .before .before .before .args .timeouts .now) k) (omega arith)
 
-pub least-timeout-spec : {M : Type 1} → statement M
-least-timeout-spec =
+pub least-spec : {M : Type 1} → statement M
+least-spec =
     tie.close
     (tie.spec
     Inv-loop
