@@ -226,13 +226,10 @@ module _ (t : Table) (s : State) where
       and-no true = refl
       and-no false = refl
 
-  pub state-no-heads : every maxHeads (λ i. placeFits t (s .clock) i (headOf (s .heads) i)) ≡ false → stateFits t s ≡ false
+  -- where the front fits, the heads decide
+  pub state-heads : length (s .heads) ≡ maxHeads → frontFits t s ≡ true → every maxHeads (λ i. placeFits t (s .clock) i (headOf (s .heads) i)) ≡ stateFits t s
   unfolding stateFits
-  state-no-heads e = rw e (and-no₂ (eqb (length (s .heads)) maxHeads) (frontFits t s))
-
-  pub state-yes : length (s .heads) ≡ maxHeads → frontFits t s ≡ true → every maxHeads (λ i. placeFits t (s .clock) i (headOf (s .heads) i)) ≡ true → stateFits t s ≡ true
-  unfolding stateFits
-  state-yes l a b = both (eq-eqb _ _ l) (both a b)
+  state-heads l a = rw (eq-eqb _ _ l, a)
 
   -- the clock of a state whose front fits
   pub front-clock : frontFits t s ≡ true → s .clock ≤ ceiling
@@ -278,7 +275,10 @@ pub fresh-blank : (t : Table) → tableFits t ≡ false → blank ≡ freshOrBla
 unfolding freshOrBlank
 fresh-blank t e = rw e
 
-pub fresh-made : (t : Table) (c : Calendar) (hs : List Head) → tableFits t ≡ true → c ≡ emptyCalendar → hs ≡ map (headIn Init) (t .wakes)
-    → record { clock = 0; n = t .n; calendar = c; heads = hs } ≡ freshOrBlank t
-unfolding freshOrBlank fresh
-fresh-made t c hs e a b = rw (e, a, b)
+pub fresh-made : (t : Table) (c : Calendar) (hs : List Head) → c ≡ emptyCalendar → hs ≡ map (headIn Init) (t .wakes) → record { clock = 0; n = t .n; calendar = c; heads = hs } ≡ fresh t
+unfolding fresh
+fresh-made t c hs e h = rw (e, h)
+
+pub fresh-fits : (t : Table) → tableFits t ≡ true → fresh t ≡ freshOrBlank t
+unfolding freshOrBlank
+fresh-fits t f = rw f

@@ -16,7 +16,7 @@ ghost use Rattle.words.specs.Refusal.{verdictNumber};
 ghost use Rattle.rules.specs.Each.{every};
 ghost use Rattle.rules.specs.Limits.{maxHeads, ceiling};
 ghost use Rattle.rules.specs.Table.{wakeOf, tableFits, tableRefusal};
-ghost use Rattle.rules.specs.State.{headIn, headOf, headFits, isZero, placeFits, frontFits, blank, freshOrBlank};
+ghost use Rattle.rules.specs.State.{headIn, headOf, headFits, isZero, placeFits, frontFits, stateFits, blank, fresh, freshOrBlank};
 ghost use Rattle.rules.specs.Judge.{recordRefusal};
 
 impl State {
@@ -52,16 +52,24 @@ impl State {
                 state: none,
             };
         };
-        let c = Calendar::empty();
-        let hs = asleep(t);
+        let s = State::fresh_fit(t);
         Judged {
             verdict: Verdict::Accepted,
-            state: State {
-                clock: 0,
-                n: t.n,
-                calendar: c,
-                heads: hs,
-            },
+            state: s,
+        }
+    }
+
+    // The same of a table that is known to fit.
+    pub fn fresh_fit(t: Table) -> State
+        ensures { λ r. ⌜ r ≡ fresh t ⌝ }
+    {
+        let c = Calendar::empty();
+        let hs = asleep(t);
+        State {
+            clock: 0,
+            n: t.n,
+            calendar: c,
+            heads: hs,
         }
     }
 
@@ -73,13 +81,21 @@ impl State {
         let Verdict::Accepted = v else {
             return v;
         };
-        if !front_fits(t, self) {
-            return Verdict::Refused(Refusal::StateRule);
-        }
-        if !heads_fit(t, self) {
+        if !self.fits(t) {
             return Verdict::Refused(Refusal::StateRule);
         }
         Verdict::Accepted
+    }
+
+    // Whether the state rules hold, against a table that is known to fit.
+    pub fn fits(self, t: Table) -> bool
+        requires { ⌜ tableFits t ≡ true ⌝ }
+        ensures { λ r. ⌜ r ≡ stateFits t self ⌝ }
+    {
+        if !front_fits(t, self) {
+            return false;
+        }
+        heads_fit(t, self)
     }
 }
 

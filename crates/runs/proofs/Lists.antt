@@ -19,9 +19,11 @@ use Rattle.rules.specs.Judge.{recordRefusal}
 use Rattle.rules.proofs.Meaning.{table-meets, state-meets}
 use Rattle.runs.specs.declared.listing.Pairs.{Pairs}
 use Rattle.runs.specs.Open.{onlyIf, openTo, openSteps, stepBytes}
-use Rattle.rules.specs.Room.{bytesWritten, roomAfter}
-use Rattle.rules.proofs.Rooms.{write-unfit, write-fits, wrote-none, wrote-short, wrote-image}
-use Rattle.runs.specs.Listing.{listImage, listRefusal}
+use Rattle.rules.specs.declared.Written.{Written}
+use Rattle.rules.specs.Room.{writeRefusal, Wrote}
+use Rattle.rules.proofs.Rooms.{write-fits, wrote-short, wrote-image}
+use Rattle.runs.specs.Listing.{listImage}
+use Rattle.words.specs.declared.Verdict.the-variants.{Accepted, Refused}
 use Rattle.steps.specs.Parts.{timeouts, instant}
 use Rattle.steps.proofs.Parts.{instant-is}
 use Rattle.runs.specs.Gathered.{Holds, Adds}
@@ -65,25 +67,17 @@ module _ (t : Table) (s : State) (f : tableFits t ≡ true) (g : stateFits t s �
 
 -- ---- what the list answers, and what the room then holds
 
--- a number of a verdict, a count of bytes and a room are the answer
-abbrev pub Lists : Table → State → List ℕ → ℕ → ℕ → List ℕ → Type 0
-Lists t s room number bytes after = (number ≡ listRefusal t s room) × ((bytes ≡ bytesWritten (listRefusal t s room) (listImage t s)) × (after ≡ roomAfter (listRefusal t s room) (listImage t s) room))
-
-module _ (t : Table) (s : State) (room : List ℕ) where
-  pub list-unfit : (number : ℕ) → number ≡ recordRefusal t s → (recordRefusal t s ≡ 0 → ⊥) → Lists t s room number 0 room
-  list-unfit number e n =
-      let u = write-unfit (recordRefusal t s) (listImage t s) room n in
-      let w = wrote-none (listRefusal t s room) (listImage t s) room (λ z. n (u ∙ z)) in
-      (e ∙ u, w)
-
-  pub list-short : recordRefusal t s ≡ 0 → (p : Pairs) → Holds p (openSteps t s) → length room < p .used → Lists t s room (numberOf ShortRoom) 0 room
+module _ (t : Table) (s : State) (room : List ℕ) (p : Pairs) (h : Holds p (openSteps t s)) where
+  list-long : length (listImage t s) ≡ p .used
   unfolding listImage
-  list-short e p h l = let w = wrote-short (recordRefusal t s) (listImage t s) room e (let n = h .long in omega arith) in (w .0, (w .1, w .2))
+  list-long = sym (h .long)
 
-  pub list-done : recordRefusal t s ≡ 0 → (p : Pairs) → Holds p (openSteps t s) → p .used ≤ length room → (after : List ℕ) → after ≡ take (p .used) (p .bytes) ++ drop (p .used) room
-      → Lists t s room 0 (p .used) after
+  pub list-short : length room < p .used → Wrote record { verdict = Refused ShortRoom; bytes = 0 } 0 (listImage t s) room room
+  list-short l = wrote-short 0 (listImage t s) room refl (omega (arith, list-long))
+
+  pub list-done : p .used ≤ length room → (after : List ℕ) → after ≡ take (p .used) (p .bytes) ++ drop (p .used) room → Wrote record { verdict = Accepted; bytes = p .used } 0 (listImage t s) room after
   unfolding listImage
-  list-done e p h l after a =
-      let none = write-fits (recordRefusal t s) (listImage t s) room e (let n = h .long in omega arith) in
-      let w = wrote-image (listRefusal t s room) (p .used) (listImage t s) room after none (h .long) (a ∙ rw (h .same, h .long)) in
-      (sym none, w)
+  list-done l after a =
+      let none = write-fits 0 (listImage t s) room refl (omega (arith, list-long)) in
+      let w = wrote-image (writeRefusal 0 (listImage t s) room) (p .used) (listImage t s) room after none (h .long) (a ∙ rw (h .same, h .long)) in
+      (sym none, w .0, w .1)

@@ -19,7 +19,7 @@ told-one : (r q : Ran) → told r ≡ told q → r ≡ q
 told-one r q e = λ i. record { state = e i .state; accepted = e i .accepted; verdict = verdict-one (r .verdict) (q .verdict) (ap (λ (o : Outcome). o .refusal) e) i }
 
 pub open-steps-one : (κs : Lfts 1) (a : K.Dens κs open-steps-kinds.ps) (r q : _) (s u : _) → open-steps.Post κs a r s → open-steps.Post κs a q u → (r ≡ q) × (now (s .1 .1 .0) ≡ now (u .1 .1 .0))
-open-steps-one κs a r q s u p e = (written-one r q (p .0) (e .0) (p .1 .0) (e .1 .0), p .1 .1 ∙ sym (e .1 .1))
+open-steps-one κs a r q s u p e = (written-one r q (p .0) (e .0) (p .1) (e .1), p .2 ∙ sym (e .2))
 
 pub run-given-one : (κs : Lfts 1) (a : K.Dens κs run-given-kinds.ps) (r q : _) (s u : _) → run-given.Post κs a r s → run-given.Post κs a q u → r ≡ q
 run-given-one κs a r q s u p e = told-one r q (p ∙ sym e)

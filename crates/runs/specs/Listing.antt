@@ -10,7 +10,3 @@ use Rattle.runs.specs.Open.{openSteps, stepBytes}
 -- the step list in bytes
 unfoldable pub listImage : Table → State → List ℕ
 listImage t s = stepBytes (openSteps t s)
-
--- "Writers and the step list: 3, 6 where a state is given, then 12"
-abbrev pub listRefusal : Table → State → List ℕ → ℕ
-listRefusal t s room = writeRefusal (recordRefusal t s) (listImage t s) room

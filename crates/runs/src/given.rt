@@ -26,12 +26,12 @@ pub fn run_given(t: Table, s: State, pairs: &[u8]) -> Ran
     let Verdict::Accepted = v else {
         return stopped(s, 0, v);
     };
-    run_from(t, s, pairs)
+    run_given_fit(t, s, pairs)
 }
 
-// The run itself, on a table and a state that fit. The state is kept in place, and its timeouts beside it: a step changes the clock,
-// the calendar and one head.
-fn run_from(t: Table, s: State, pairs: &[u8]) -> Ran
+// The same on a table and a state that are known to fit. The state is kept in place, and its timeouts beside it: a step changes the
+// clock, the calendar and one head.
+pub fn run_given_fit(t: Table, s: State, pairs: &[u8]) -> Ran
     requires { ⌜ (tableFits t ≡ true) × (stateFits t s ≡ true) ⌝ }
     ensures { λ r. ⌜ told r ≡ runFrom t s 0 (now (pairs .entry)) ⌝ }
 {

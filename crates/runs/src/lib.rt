@@ -13,8 +13,11 @@ mod policy;
 mod search;
 
 pub use given::run_given;
+pub use given::run_given_fit;
 pub use listing::open_steps;
+pub use listing::open_steps_fit;
 pub use policy::run_policy;
+pub use policy::run_policy_fit;
 
 // What a run answers: the state it came to, how many steps were accepted, and what stopped it.
 pub struct Ran {

@@ -13,12 +13,12 @@ ghost use mathlib.Core.Bool.{true};
 ghost use mathlib.Core.List.{_++_};
 ghost use Prim.Native.Nat.{_+_, _≤_};
 ghost use lib.ListN.{length, take, drop};
-ghost use Rattle.words.specs.Refusal.{verdictNumber};
 ghost use Rattle.rules.specs.Table.{tableFits};
 ghost use Rattle.rules.specs.State.{stateFits};
 ghost use Rattle.runs.specs.Open.{openTo, openSteps};
-ghost use Rattle.rules.specs.Room.{bytesWritten, roomAfter};
-ghost use Rattle.runs.specs.Listing.{listImage, listRefusal};
+ghost use Rattle.rules.specs.Judge.{recordRefusal};
+ghost use Rattle.rules.specs.Room.{Wrote};
+ghost use Rattle.runs.specs.Listing.{listImage};
 ghost use Rattle.runs.specs.Gathered.{mostBytes, gathered, Holds, Adds};
 
 // Steps in bytes, gathered before any is written to the room: the first used bytes hold them. Sixty-four heads have at most two steps
@@ -30,9 +30,7 @@ struct Pairs {
 
 // Writes the open steps as pairs of bytes and answers how many bytes they take; where it refuses, the room is left as it was.
 pub fn open_steps(t: Table, s: State, room: &mut [u8]) -> Written
-    ensures { λ r. ⌜ verdictNumber (r .verdict) ≡ listRefusal t s (now (room .entry)) ⌝ }
-    ensures { λ r. ⌜ r .bytes ≡ bytesWritten (listRefusal t s (now (room .entry))) (listImage t s) ⌝ }
-    ensures { λ r. ⌜ now (room .exit) ≡ roomAfter (listRefusal t s (now (room .entry))) (listImage t s) (now (room .entry)) ⌝ }
+    ensures { λ r. ⌜ Wrote r (recordRefusal t s) (listImage t s) (now (room .entry)) (now (room .exit)) ⌝ }
 {
     let v = s.check(t);
     let Verdict::Accepted = v else {
@@ -41,6 +39,14 @@ pub fn open_steps(t: Table, s: State, room: &mut [u8]) -> Written
             bytes: 0,
         };
     };
+    open_steps_fit(t, s, room)
+}
+
+// The same for a table and a state that are known to fit: only the room can be too short.
+pub fn open_steps_fit(t: Table, s: State, room: &mut [u8]) -> Written
+    requires { ⌜ (tableFits t ≡ true) × (stateFits t s ≡ true) ⌝ }
+    ensures { λ r. ⌜ Wrote r 0 (listImage t s) (now (room .entry)) (now (room .exit)) ⌝ }
+{
     let found = open_pairs(t, s);
     let bytes = found.used;
     if room.len() < bytes {

@@ -12,10 +12,11 @@ use steps::timeouts;
 use words::Verdict;
 ghost use mathlib.Core.Path.{_≡_};
 ghost use mathlib.Core.Bool.{true};
+ghost use Prim.Native.Nat.{min};
 ghost use Rattle.rules.specs.Table.{tableFits};
 ghost use Rattle.rules.specs.State.{stateFits};
 ghost use Rattle.runs.specs.Run.{told};
-ghost use Rattle.runs.specs.Chosen.{policyFrom, policy};
+ghost use Rattle.runs.specs.Chosen.{longestRun, policyFrom, policy};
 
 // Plays up to count steps, a count above the longest run taken as the longest. It stops early, with nothing refused, where no step is open.
 pub fn run_policy(t: Table, s: State, count: usize) -> Ran
@@ -25,6 +26,14 @@ pub fn run_policy(t: Table, s: State, count: usize) -> Ran
     let Verdict::Accepted = v else {
         return stopped(s, 0, v);
     };
+    run_policy_fit(t, s, count)
+}
+
+// The same on a table and a state that are known to fit.
+pub fn run_policy_fit(t: Table, s: State, count: usize) -> Ran
+    requires { ⌜ (tableFits t ≡ true) × (stateFits t s ≡ true) ⌝ }
+    ensures { λ r. ⌜ told r ≡ policyFrom t s 0 (min count longestRun) ⌝ }
+{
     if Ran::LONGEST < count {
         return policy_from(t, s, Ran::LONGEST);
     }

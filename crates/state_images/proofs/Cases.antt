@@ -141,13 +141,13 @@ took-state n l clock c hs a b e = rw (a, b, e)
 pub taken : (n : ℕ) (l : List ℕ) (s : State) → s ≡ takeState n l → takeRefusal n l ≡ 0 → s ≡ stateIn n l
 taken n l s e z = e ∙ sym (or-some (takeRefusal n l) (stateIn n l) blank z)
 
-pub rule-broken : (t : Table) (s : State) → tableFits t ≡ true → (recordRefusal t s ≡ 0 → ⊥) → numberOf StateRule ≡ stateRefusal t s
+pub rule-broken : (t : Table) (s : State) → stateFits t s ≡ false → numberOf StateRule ≡ stateRefusal t s
 unfolding stateRefusal
-rule-broken t s f n = elim (either? (stateFits t s)) [ inl e ↦ absurd (n (sym (record-accepted t s f e))) | inr e ↦ sym (unless-not (stateFits t s) StateRule e) ]
+rule-broken t s e = sym (unless-not (stateFits t s) StateRule e)
 
-pub rule-kept : (t : Table) (s : State) → recordRefusal t s ≡ 0 → stateRefusal t s ≡ 0
+pub rule-kept : (t : Table) (s : State) → stateFits t s ≡ true → stateRefusal t s ≡ 0
 unfolding stateRefusal
-rule-kept t s z = is-unless (stateFits t s) StateRule (accepted-record t s z .1)
+rule-kept t s e = is-unless (stateFits t s) StateRule e
 
 -- a state that fits has no more heads than there are places
 pub written-heads : (t : Table) (s : State) → recordRefusal t s ≡ 0 → s .n ≤ maxHeads

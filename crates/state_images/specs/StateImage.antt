@@ -121,8 +121,3 @@ readStateRefusal t l = firstOf (tableRefusal t ∷ takeRefusal (t .n) l ∷ stat
 
 abbrev pub readState : Table → List ℕ → State
 readState t l = orBlank (readStateRefusal t l) (stateIn (t .n) l) blank
-
--- ---- writing: 3, 6, then 12
-
-abbrev pub writeStateRefusal : Table → State → List ℕ → ℕ
-writeStateRefusal t s room = writeRefusal (recordRefusal t s) (stateImage s) room

@@ -24,10 +24,13 @@ ghost use Rattle.words.specs.Refusal.{verdictNumber, numberOf};
 ghost use Rattle.rules.specs.Each.{every};
 ghost use Rattle.rules.specs.Limits.{maxHeads};
 ghost use Rattle.rules.specs.State.{noHead, headOf, blank};
-ghost use Rattle.rules.specs.Room.{bytesWritten, roomAfter};
+ghost use Rattle.rules.specs.Room.{Wrote};
+ghost use Rattle.rules.specs.Judge.{recordRefusal};
+ghost use Rattle.rules.specs.Table.{tableFits};
+ghost use mathlib.Core.Bool.{true};
 ghost use Rattle.octets.specs.Room.{stored};
 ghost use Rattle.octets.specs.Fields.{inBytes, joined, places};
-ghost use Rattle.state_images.specs.StateImage.{hearersPlace, stateFront, headLength, stateLength, calendarFields, stateFields, headFields, stateImage, headPlace, phaseFrom, phaseKnown, headAt, knownAt, calendarIn, takeRefusal, takeState, readStateRefusal, readState, writeStateRefusal};
+ghost use Rattle.state_images.specs.StateImage.{hearersPlace, stateFront, headLength, stateLength, calendarFields, stateFields, headFields, stateImage, headPlace, phaseFrom, phaseKnown, headAt, knownAt, calendarIn, takeRefusal, takeState, readStateRefusal, readState};
 
 // The letters HST as one number, least byte first.
 const MARK: u64 = b'H' as u64 + 256 * (b'S' as u64 + 256 * (b'T' as u64));
@@ -55,7 +58,7 @@ const ACTIVE: u8 = 3;
 
 // Writes a state's image into the room: refused with 3, 6 or 12, or the number of bytes.
 pub fn write(t: Table, s: State, room: &mut [u8]) -> Written
-    ensures { λ r. ⌜ (verdictNumber (r .verdict) ≡ writeStateRefusal t s (now (room .entry))) × (r .bytes ≡ bytesWritten (writeStateRefusal t s (now (room .entry))) (stateImage s)) × (now (room .exit) ≡ roomAfter (writeStateRefusal t s (now (room .entry))) (stateImage s) (now (room .entry))) ⌝ }
+    ensures { λ r. ⌜ Wrote r (recordRefusal t s) (stateImage s) (now (room .entry)) (now (room .exit)) ⌝ }
 {
     let v = s.check(t);
     let Verdict::Accepted = v else {
@@ -64,6 +67,14 @@ pub fn write(t: Table, s: State, room: &mut [u8]) -> Written
             bytes: 0,
         };
     };
+    write_fit(s, room)
+}
+
+// The same for a state that is known to fit: only the room can be too short.
+pub fn write_fit(s: State, room: &mut [u8]) -> Written
+    requires { ⌜ s .n ≤ maxHeads ⌝ }
+    ensures { λ r. ⌜ Wrote r 0 (stateImage s) (now (room .entry)) (now (room .exit)) ⌝ }
+{
     let need = FRONT + HEAD * (s.n as usize);
     if room.len() < need {
         return Written {
@@ -131,20 +142,24 @@ pub fn read(t: Table, image: &[u8]) -> Judged
     let Verdict::Accepted = v else {
         return none(Refusal::TableRange);
     };
+    read_fit(t, image)
+}
+
+// The same against a table that is known to fit.
+pub fn read_fit(t: Table, image: &[u8]) -> Judged
+    requires { ⌜ tableFits t ≡ true ⌝ }
+    ensures { λ r. ⌜ (verdictNumber (r .verdict) ≡ readStateRefusal t (now (image .entry))) × (r .state ≡ readState t (now (image .entry))) ⌝ }
+{
     let got = take(image, t.n);
     let w = got.verdict;
     let Verdict::Accepted = w else {
         return got;
     };
     let s = got.state;
-    let x = s.check(t);
-    let Verdict::Accepted = x else {
+    if !s.fits(t) {
         return none(Refusal::StateRule);
-    };
-    Judged {
-        verdict: Verdict::Accepted,
-        state: s,
     }
+    got
 }
 
 fn none(x: Refusal) -> Judged

@@ -71,8 +71,3 @@ blankTable = record { n = 0; s = 0; p = 0; wakes = replicate maxHeads 0 }
 
 abbrev pub readTable : List ℕ → Table
 readTable l = orBlank (readTableRefusal l) (tableIn l) blankTable
-
--- ---- writing: 3, then 12
-
-abbrev pub writeTableRefusal : Table → List ℕ → ℕ
-writeTableRefusal t room = writeRefusal (tableRefusal t) (tableImage t) room

@@ -18,11 +18,12 @@ ghost use Prim.Native.Nat.{_≤_};
 ghost use lib.ListN.{length};
 ghost use Rattle.words.specs.Refusal.{verdictNumber, numberOf};
 ghost use Rattle.rules.specs.Limits.{maxHeads};
-ghost use Rattle.rules.specs.Room.{bytesWritten, roomAfter};
+ghost use Rattle.rules.specs.Room.{Wrote};
+ghost use Rattle.rules.specs.Table.{tableRefusal};
 ghost use Rattle.octets.specs.Bytes.{numberAt};
 ghost use Rattle.octets.specs.Room.{stored};
 ghost use Rattle.octets.specs.Fields.{inBytes, joined, places, countIn};
-ghost use Rattle.table_images.specs.TableImage.{tableFront, tableLength, tableFields, wakeFields, wakePlace, tableIn, readTableRefusal, blankTable, readTable, tableImage, writeTableRefusal};
+ghost use Rattle.table_images.specs.TableImage.{tableFront, tableLength, tableFields, wakeFields, wakePlace, tableIn, readTableRefusal, blankTable, readTable, tableImage};
 
 // The letters HTB as one number, least byte first.
 const MARK: u64 = b'H' as u64 + 256 * (b'T' as u64 + 256 * (b'B' as u64));
@@ -45,7 +46,7 @@ pub struct TableRead {
 
 // Writes a table's image into the room: refused with 3 or 12, or the number of bytes.
 pub fn write(t: Table, room: &mut [u8]) -> Written
-    ensures { λ r. ⌜ (verdictNumber (r .verdict) ≡ writeTableRefusal t (now (room .entry))) × (r .bytes ≡ bytesWritten (writeTableRefusal t (now (room .entry))) (tableImage t)) × (now (room .exit) ≡ roomAfter (writeTableRefusal t (now (room .entry))) (tableImage t) (now (room .entry))) ⌝ }
+    ensures { λ r. ⌜ Wrote r (tableRefusal t) (tableImage t) (now (room .entry)) (now (room .exit)) ⌝ }
 {
     let v = t.check();
     let Verdict::Accepted = v else {

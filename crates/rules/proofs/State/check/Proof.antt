@@ -1,7 +1,6 @@
 use mathlib.Core.Path.{_∙_}
 use Rattle.words.proofs.Order.{accepted-zero, refused-some}
-use Rattle.rules.proofs.Known.{state-places}
-use Rattle.rules.proofs.Checks.{flag-no, flag-yes, accepted-table, record-table, record-state, record-accepted, state-no-front, state-no-heads, state-yes, front-clock}
+use Rattle.rules.proofs.Checks.{flag-no, flag-yes, accepted-table, record-table, record-state, record-accepted}
 use borrow.Author.Needs.{needs}
 use Rattle.rules.proofs.State.check.Statement.{statement}
 use Rattle.rules.proofs.State.check.Tie as tie
@@ -16,33 +15,18 @@ enum-told-2 : tie.Need-enum-told-2
 enum-told-2 c = search needs
 
 returns : tie.Need-returns
-returns c = c .before .before .check .ensures ∙ record-table _ _ (refused-some _ _ _ (c .before .before .check .ensures) (c .enum-told2 .given .1))
+returns c = (c .before .before .check) .ensures ∙ record-table _ _ (refused-some _ _ _ ((c .before .before .check) .ensures) ((c .enum-told2) .given .1))
 
-front-fits-requires : tie.Need-front-fits-requires
-front-fits-requires c κs = accepted-table _ (accepted-zero (c .before .before .check .result) _ (c .before .before .check .ensures) (search needs))
+fits-requires : tie.Need-fits-requires
+fits-requires c κs = accepted-table _ (accepted-zero ((c .before .before .check) .result) _ ((c .before .before .check) .ensures) (search needs))
 
 returns-2 : tie.Need-returns-2
-returns-2 c = record-state _ _ (accepted-table _ (accepted-zero (c .before .before .before .before .check .result) _ (c .before .before .before .before .check .ensures) (search needs))) (state-no-front _ _ (flag-no _ _ (c .before .front-fits .ensures) (c .if1 .taken)))
-
-heads-fit-requires : tie.Need-heads-fit-requires
-heads-fit-requires c κs = (accepted-table _ (accepted-zero (c .before .before .before .before .check .result) _ (c .before .before .before .before .check .ensures) (search needs)), front-clock _ _ (flag-yes _ _ (c .before .front-fits .ensures) (c .if1 .left)))
+returns-2 c = record-state _ _ (accepted-table _ (accepted-zero ((c .before .before .before .before .check) .result) _ ((c .before .before .before .before .check) .ensures) (search needs))) (flag-no _ _ ((c .before .fits2) .ensures) ((c .if1) .taken))
 
 returns-3 : tie.Need-returns-3
-returns-3 c = record-state _ _ (accepted-table _ (accepted-zero (c .before .before .before .before .before .before .check .result) _ (c .before .before .before .before .before .before .check .ensures) (search needs))) (state-no-heads _ _ (flag-no _ _ (c .before .heads-fit .ensures) (c .if2 .taken)))
-
-returns-4 : tie.Need-returns-4
-returns-4 c = record-accepted _ _ (accepted-table _ (accepted-zero (c .before .before .before .before .before .before .check .result) _ (c .before .before .before .before .before .before .check .ensures) (search needs))) (state-yes _ _ (state-places (c .before .before .before .before .before .before .before .args .self) _ (c .before .before .before .before .before .before .before .good .0)) (flag-yes _ _ (c .before .before .before .front-fits .ensures) (c .before .before .if1 .left)) (flag-yes _ _ (c .before .heads-fit .ensures) (c .if2 .left)))
+returns-3 c = record-accepted _ _ (accepted-table _ (accepted-zero ((c .before .before .before .before .check) .result) _ ((c .before .before .before .before .check) .ensures) (search needs))) (flag-yes _ _ ((c .before .fits2) .ensures) ((c .if1) .left))
 
 pub check-spec : {M : Type 1} → statement M
 check-spec =
     tie.close
-    (tie.spec
-    check-requires
-    enum-told
-    enum-told-2
-    returns
-    front-fits-requires
-    returns-2
-    heads-fit-requires
-    returns-3
-    returns-4)
+    (tie.spec check-requires enum-told enum-told-2 returns fits-requires returns-2 returns-3)

@@ -23,12 +23,12 @@ returns : tie.Need-returns
 unfolding run
 returns c = c .stopped .ensures ∙ unfit _ _ _ _ (c .before .before .before .check .ensures) (refused-some (c .before .before .before .check .result) _ _ (c .before .before .before .check .ensures) (c .before .enum-told2 .given .1))
 
-run-from-requires : tie.Need-run-from-requires
-run-from-requires c κs = accepted-record _ _ (accepted-zero (c .before .before .check .result) _ (c .before .before .check .ensures) (search needs))
+run-given-fit-requires : tie.Need-run-given-fit-requires
+run-given-fit-requires c κs = accepted-record _ _ (accepted-zero (c .before .before .check .result) _ (c .before .before .check .ensures) (search needs))
 
 returns-2 : tie.Need-returns-2
 unfolding run
-returns-2 c = c .run-from .ensures ∙ fit _ _ _ (accepted-zero (c .before .before .before .check .result) _ (c .before .before .before .check .ensures) (search needs))
+returns-2 c = c .run-given-fit .ensures ∙ fit _ _ _ (accepted-zero (c .before .before .before .check .result) _ (c .before .before .before .check .ensures) (search needs))
 
 pub run-given-spec : {M : Type 1} → statement M
 run-given-spec =
@@ -39,5 +39,5 @@ run-given-spec =
     enum-told-2
     stopped-requires
     returns
-    run-from-requires
+    run-given-fit-requires
     returns-2)

@@ -1,7 +1,8 @@
+use mathlib.Core.Path.{_∙_}
 use Rattle.words.proofs.Order.{accepted-zero, refused-some}
 use Rattle.rules.proofs.Checks.{accepted-record}
-use Rattle.runs.proofs.Lists.{list-unfit, list-short, list-done}
-use Rattle.runs.proofs.Gathers.{held-fits}
+use Rattle.rules.proofs.Rooms.{write-unfit, wrote-none}
+use Rattle.runs.specs.Listing.{listImage}
 use borrow.Author.Needs.{needs}
 use Rattle.runs.proofs.listing.open_steps.Statement.{statement}
 use Rattle.runs.proofs.listing.open_steps.Tie as tie
@@ -16,22 +17,20 @@ enum-told-2 : tie.Need-enum-told-2
 enum-told-2 c = search needs
 
 returns : tie.Need-returns
-returns c = list-unfit _ _ _ _ (c .before .before .check .ensures) (refused-some (c .before .before .check .result) _ _ (c .before .before .check .ensures) (c .enum-told2 .given .1))
+returns c = let e = refused-some _ _ _ ((c .before .before .check) .ensures) ((c .enum-told2) .given .1) in
+    let i = listImage ((c .before .before .before .before .args) .t) ((c .before .before .before .before .args) .s) in
+    let u = (c .before .before .check) .ensures ∙ write-unfit _ i ((c .before .before .before .before .args) .room .now) e in
+    let w = wrote-none _ i ((c .before .before .before .before .args) .room .now) (refused-some _ _ _ u ((c .enum-told2) .given .1)) in
+    (u, w .0, w .1)
 
-open-pairs-requires : tie.Need-open-pairs-requires
-open-pairs-requires c κs = accepted-record _ _ (accepted-zero (c .before .before .check .result) _ (c .before .before .check .ensures) (search needs))
-
-returns-2 : tie.Need-returns-2
-returns-2 c = list-short _ _ _ (accepted-zero (c .before .before .before .before .check .result) _ (c .before .before .before .before .check .ensures) (search needs)) _ (c .before .open-pairs .ensures) (search needs)
-
-copy-requires : tie.Need-copy-requires
-copy-requires c κs = let h = c .before .before .open-pairs .ensures in (h .places, held-fits _ _ h, search needs)
+open-steps-fit-requires : tie.Need-open-steps-fit-requires
+open-steps-fit-requires c κs = accepted-record _ _ (accepted-zero ((c .before .before .before .check) .result) _ ((c .before .before .before .check) .ensures) (search needs))
 
 same-length : tie.Need-same-length
 same-length c = search needs
 
-returns-3 : tie.Need-returns-3
-returns-3 c = list-done _ _ _ (accepted-zero (c .before .before .before .before .before .before .before .before .check .result) _ (c .before .before .before .before .before .before .before .before .check .ensures) (search needs)) _ (c .before .before .before .before .before .open-pairs .ensures) (search needs) _ (c .before .before .copy .ensures)
+returns-2 : tie.Need-returns-2
+returns-2 c = rw (accepted-zero ((c .before .before .before .before .before .before .check) .result) _ ((c .before .before .before .before .before .before .check) .ensures) (search needs)) ((c .before .before .open-steps-fit) .ensures)
 
 pub open-steps-spec : {M : Type 1} → statement M
 open-steps-spec =
@@ -41,8 +40,6 @@ open-steps-spec =
     enum-told
     enum-told-2
     returns
-    open-pairs-requires
-    returns-2
-    copy-requires
+    open-steps-fit-requires
     same-length
-    returns-3)
+    returns-2)

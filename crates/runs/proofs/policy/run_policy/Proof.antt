@@ -2,7 +2,7 @@ use mathlib.Core.Path.{_∙_}
 use Rattle.words.proofs.Order.{accepted-zero, refused-some}
 use Rattle.rules.proofs.Checks.{accepted-record}
 use Rattle.runs.specs.Chosen.{policy}
-use Rattle.runs.proofs.Laws.{unfit, fit, policy-short, policy-long}
+use Rattle.runs.proofs.Laws.{unfit, fit}
 use borrow.Author.Needs.{needs}
 use Rattle.runs.proofs.policy.run_policy.Statement.{statement}
 use Rattle.runs.proofs.policy.run_policy.Tie as tie
@@ -21,21 +21,14 @@ stopped-requires c κs = search needs
 
 returns : tie.Need-returns
 unfolding policy
-returns c = c .stopped .ensures ∙ unfit _ _ _ _ (c .before .before .before .check .ensures) (refused-some (c .before .before .before .check .result) _ _ (c .before .before .before .check .ensures) (c .before .enum-told2 .given .1))
+returns c = (c .stopped) .ensures ∙ unfit _ _ _ _ ((c .before .before .before .check) .ensures) (refused-some ((c .before .before .before .check) .result) _ _ ((c .before .before .before .check) .ensures) ((c .before .enum-told2) .given .1))
 
-policy-from-requires : tie.Need-policy-from-requires
-policy-from-requires c κs = accepted-record _ _ (accepted-zero (c .before .before .before .check .result) _ (c .before .before .before .check .ensures) (search needs))
+run-policy-fit-requires : tie.Need-run-policy-fit-requires
+run-policy-fit-requires c κs = accepted-record _ _ (accepted-zero ((c .before .before .check) .result) _ ((c .before .before .check) .ensures) (search needs))
 
 returns-2 : tie.Need-returns-2
 unfolding policy
-returns-2 c = c .policy-from .ensures ∙ policy-long _ _ _ (search needs) ∙ fit _ _ _ (accepted-zero (c .before .before .before .before .check .result) _ (c .before .before .before .before .check .ensures) (search needs))
-
-policy-from-requires-2 : tie.Need-policy-from-requires-2
-policy-from-requires-2 c κs = accepted-record _ _ (accepted-zero (c .before .before .before .check .result) _ (c .before .before .before .check .ensures) (search needs))
-
-returns-3 : tie.Need-returns-3
-unfolding policy
-returns-3 c = c .policy-from2 .ensures ∙ policy-short _ _ _ (search needs) ∙ fit _ _ _ (accepted-zero (c .before .before .before .before .check .result) _ (c .before .before .before .before .check .ensures) (search needs))
+returns-2 c = (c .run-policy-fit) .ensures ∙ fit _ _ _ (accepted-zero ((c .before .before .before .check) .result) _ ((c .before .before .before .check) .ensures) (search needs))
 
 pub run-policy-spec : {M : Type 1} → statement M
 run-policy-spec =
@@ -46,7 +39,5 @@ run-policy-spec =
     enum-told-2
     stopped-requires
     returns
-    policy-from-requires
-    returns-2
-    policy-from-requires-2
-    returns-3)
+    run-policy-fit-requires
+    returns-2)
