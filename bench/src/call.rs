@@ -13,6 +13,8 @@ pub enum Call<'a> {
     List,
     Given(&'a [u8]),
     Policy(usize),
+    /// The library's policy run beside the twin's sweep.
+    Sweep(usize),
 }
 
 pub struct Answer {
@@ -28,7 +30,7 @@ impl Call<'_> {
             Call::Judge(kind, head) => door::judge(table, state, kind, head, room),
             Call::List => door::list(table, state, room),
             Call::Given(pairs) => door::given(table, state, pairs, room),
-            Call::Policy(count) => door::policy(table, state, count, room),
+            Call::Policy(count) | Call::Sweep(count) => door::policy(table, state, count, room),
         }
     }
 
@@ -39,6 +41,7 @@ impl Call<'_> {
             Call::List => twin::list(table, state, room),
             Call::Given(pairs) => twin::given(table, state, pairs, room),
             Call::Policy(count) => twin::policy(table, state, count, room),
+            Call::Sweep(count) => twin::sweep(table, state, count, room),
         }
     }
 

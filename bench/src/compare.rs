@@ -24,7 +24,7 @@ const SOURCES: [&str; 5] = [
     "runs with and without mistakes",
     "long runs",
 ];
-const CALLS: [&str; 5] = ["fresh", "judge", "list", "given", "policy"];
+const CALLS: [&str; 6] = ["fresh", "judge", "list", "given", "policy", "sweep"];
 
 /// Makes the comparisons and counts them, by source and call and by refusal number.
 pub struct Comparison {
@@ -67,13 +67,18 @@ impl Comparison {
         (0..=12).filter(|&number| self.numbers[number] == 0).collect()
     }
 
+    /// A policy run is compared twice: with the twin's search and with its sweep.
     fn compare(&mut self, source: Source, table: &[u8], state: &[u8], call: Call, room: usize) -> Answer {
+        if let Call::Policy(count) = call {
+            self.compare(source, table, state, Call::Sweep(count), room);
+        }
         let column = match call {
             Call::Fresh => 0,
             Call::Judge(..) => 1,
             Call::List => 2,
             Call::Given(_) => 3,
             Call::Policy(_) => 4,
+            Call::Sweep(_) => 5,
         };
         let answer = call.both(table, state, room);
         self.made[source as usize][column] += 1;

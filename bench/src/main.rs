@@ -46,13 +46,16 @@ fn time_sides() {
     println!("\ntimes in nanoseconds, medians{:>18}{:>12}{:>8}", "proved", "twin", "ratio");
     let mut ratios = Vec::new();
     let mut show = |what: &str, n: u8, of: &str, figure: Figure| {
-        let Figure { proved, twin, ratio } = figure;
-        println!("  {what:<7}{n:>3}  {of:<22}{proved:>12.0}{twin:>12.0}{ratio:>8.2}");
-        ratios.push(format!("ratio {what} {n} {ratio:.2}"));
+        print_figure(what, n, of, &figure);
+        ratios.push(format!("ratio {what} {n} {:.2}", figure.ratio));
     };
     for n in [2, 16, 64] {
         let (table, fresh) = power_up(n);
         show("policy", n, "100,000 steps", time(&table, &fresh, Call::Policy(STEPS)));
+    }
+    for n in [2, 16, 64] {
+        let (table, fresh) = power_up(n);
+        print_figure("policy", n, "against a sweep", &time(&table, &fresh, Call::Sweep(STEPS)));
     }
     for n in [2, 16, 64] {
         let (table, fresh) = power_up(n);
@@ -66,8 +69,14 @@ fn time_sides() {
     // The door writes and reads images only for an operation: these two are the ones that do least beside it.
     show("write", 64, "policy run of 0 steps", time(&table, &state, Call::Policy(0)));
     show("read", 64, "step 3,0, refused (7)", time(&table, &state, Call::Judge(3, 0)));
+    println!("  a sweep is a twin that takes all that is due in one pass over the heads, once an instant");
     println!("  write reads both images and writes the state's again; read reads both and writes nothing\n");
     ratios.iter().for_each(|line| println!("{line}"));
+}
+
+fn print_figure(what: &str, n: u8, of: &str, figure: &Figure) {
+    let Figure { proved, twin, ratio } = figure;
+    println!("  {what:<7}{n:>3}  {of:<22}{proved:>12.0}{twin:>12.0}{ratio:>8.2}");
 }
 
 /// The table with S 100, P 10 and wake of head i = 1 + 37(i-1) mod 1000, and its fresh state.

@@ -94,9 +94,24 @@ pub fn given(table: &[u8], state: &[u8], pairs: &[u8], room: &mut [u8]) -> u64 {
 }
 
 pub fn policy(table: &[u8], state: &[u8], count: usize, room: &mut [u8]) -> u64 {
+    by_policy(table, state, count, room, State::policy)
+}
+
+/// `policy` once more, by a sweep of the heads in place of a search.
+pub fn sweep(table: &[u8], state: &[u8], count: usize, room: &mut [u8]) -> u64 {
+    by_policy(table, state, count, room, State::sweep)
+}
+
+fn by_policy(
+    table: &[u8],
+    state: &[u8],
+    count: usize,
+    room: &mut [u8],
+    play: impl FnOnce(&mut State, &Table, usize) -> usize,
+) -> u64 {
     let mut accepted = 0;
     let end = write_run(table, state, room, |t, s| {
-        accepted = s.policy(t, count.min(LONGEST_RUN));
+        accepted = play(s, t, count.min(LONGEST_RUN));
         Ok(())
     });
     answer(accepted, end)
@@ -339,9 +354,26 @@ impl State {
         (pairs.len() / 2, Ok(()))
     }
 
-    /// Takes the first step of the step list up to `most` times and answers how many it took. No step makes
-    /// another one due at the same clock, so one pass over the heads takes all that is due, in list order.
+    /// Takes the first step of the step list up to `most` times and answers how many it took: the first head at
+    /// which something is due, searched from head 1 anew for each step, its timer before its hearing.
     fn policy(&mut self, t: &Table, most: usize) -> usize {
+        for taken in 0..most {
+            match (0..t.n).find(|&i| self.timer_due(i) || self.hear_due(i)) {
+                Some(i) if self.timer_due(i) => self.timer(t, i),
+                Some(i) => self.hear(t, i),
+                None => {
+                    if self.advance(t).is_err() {
+                        return taken;
+                    }
+                }
+            }
+        }
+        most
+    }
+
+    /// The same steps without a search: one pass over the heads takes all that is due, in list order. It rests on
+    /// a fact that is not proved here: no step makes another one due at the same clock.
+    fn sweep(&mut self, t: &Table, most: usize) -> usize {
         let mut taken = 0;
         loop {
             for i in 0..t.n {

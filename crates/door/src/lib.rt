@@ -1,6 +1,6 @@
 // The door for C and Rust: a few functions on numbers and byte slices, each from a table image and, all but one, a state image. They
 // read the images once, do what the crates below do on records that fit, and write the next state's image into lent room; the
-// header vapourtrack.h tells a caller the rest. It uses words, rules, table_images, state_images, steps and runs.
+// header vapourtrack.h tells a caller the rest. It uses words, rules, table_images, state_images, steps and runs; its proofs use octets.
 use rules::State;
 use rules::Table;
 use rules::Written;

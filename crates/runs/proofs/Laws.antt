@@ -8,7 +8,7 @@ use native.Mathlib.Nat.{min-eq-left, min-eq-right, le-of-lt}
 use native.Mathlib.Numerals.{add-one}
 use native.Mathlib.Omega.{arith}
 use lib.Dec.{eqb}
-use lib.ListN.{length, getD, set, drop, drop-of-length-le}
+use lib.ListN.{length, getD, drop, drop-of-length-le}
 use lib.Seq.{drop-cons}
 use borrow.Author.Tests.{eq-eqb, ne-eqb}
 use Rattle.hearers.specs.Set.{has}
@@ -23,7 +23,6 @@ use Rattle.rules.specs.declared.Table.{Table}
 use Rattle.rules.specs.Table.{tableFits}
 use Rattle.rules.specs.Calendar.{hears}
 use Rattle.rules.specs.Limits.{maxHeads, ceiling}
-use Rattle.rules.specs.declared.Head.{Head}
 use Rattle.rules.specs.State.{headOf, stateFits}
 use Rattle.rules.specs.Step.{timerDue, moved}
 use Rattle.rules.specs.Judge.{stepRefusal, recordRefusal}
@@ -34,8 +33,7 @@ use Rattle.runs.specs.Open.{onlyIf, openAt, openTo, openSteps, firstOr, 
 use Rattle.runs.specs.Run.{Outcome, stopped, onward, runFrom, checked}
 use Rattle.runs.specs.Chosen.{longestRun, onFirst, policyFrom}
 use Rattle.steps.specs.Parts.{place, timeouts, clockAfter}
-use Rattle.steps.specs.Ready.{Ready}
-use Rattle.steps.proofs.Parts.{place-low, place-in, place-within, timeout-at, timeouts-set}
+use Rattle.steps.proofs.Parts.{Goes, ready, place-low, place-in, place-within, timeout-at}
 use Rattle.runs.proofs.Below.{nothing-below}
 use Rattle.rules.proofs.Each.{same?}
 use Rattle.runs.specs.Search.{dueTo}
@@ -149,10 +147,6 @@ moved-fits t s x f g e = let m = table-meets t f in meets-state t (moved t s x) 
 pub still-fits : (t : Table) (s u : State) (x : Step) → tableFits t ≡ true → stateFits t s ≡ true → stepRefusal t s x ≡ 0 → u ≡ moved t s x → stateFits t u ≡ true
 still-fits t s u x f g e a = rw a (moved-fits t s x f g e)
 
--- the timeouts beside a state whose head at a place is stored anew
-pub still-beside : (es : List ℕ) (hs : List Head) (k : ℕ) (h : Head) → es ≡ timeouts hs → set es k (h .timeout) ≡ timeouts (set hs k h)
-still-beside es hs k h e = rw e (timeouts-set hs k h)
-
 -- ---- a run of given steps: what is left of it at the byte i, after k accepted steps
 
 module _ (t : Table) (s : State) (k i : ℕ) (l : List ℕ) where
@@ -198,16 +192,32 @@ module _ (t : Table) (s : State) (f : tableFits t ≡ true) (g : stateFits t s �
   pub policy-free : x ≡ firstDue s (t .n) → later ≤ ceiling → stepRefusal t s x ≡ 0
   policy-free e l = let m = table-meets t f in rw e (first-free t s m (state-meets t s (m .heads) g) later (comes-to ∙ ap (clockAfter (timeouts (s .heads)) (t .n) (s .clock) (s .calendar)) e) l)
 
+  -- a timer or a hearing that is found leaves the clock, which is within the ceiling
+  pub policy-due : x ≡ firstDue s (t .n) → later ≡ s .clock → stepRefusal t s x ≡ 0
+  policy-due e q = policy-free e (let m = table-meets t f in let w = state-meets t s (m .heads) g .clock in omega arith)
+
   pub policy-high : ceiling < later → stepRefusal t s x ≡ 0 → ⊥
   policy-high l = let m = table-meets t f in first-high t s m (state-meets t s (m .heads) g) later x comes-to l
 
--- the next search starts at the step's place: nothing is due below it
-module _ (t : Table) (x : Step) (i at : ℕ) (p : i ≡ headNumber x) (q : at ≡ place i) where
-  pub starts-within : (clock : ℕ) → Ready t clock x → at ≤ t .n
-  starts-within clock d = let l = place-within t clock x d in omega (arith, q ∙ ap place p)
+-- what a step taken leaves: the step done in place, and the place where the next search starts, below which nothing is due
+pub record Takes (t : Table) (s : State) (x : Step) (u : State) (es : List ℕ) (from : ℕ) : Type 0 where
+  pub goes : Goes t s x u es
+  pub within : from ≤ t .n
+  pub quiet : openTo u from ≡ []
 
-  pub starts-quiet : tableFits t ≡ true → (s u : State) → openTo s (place (headNumber x)) ≡ [] → u ≡ moved t s x → openTo u at ≡ []
-  starts-quiet f s u e m = rw (m, q, p) (nothing-below t s x (table-meets t f .propagation) e)
+pub takes-advance : (t : Table) (s : State) (x : Step) (u : State) (es : List ℕ) (from : ℕ) → Goes t s x u es → from ≡ 0 → Takes t s x u es from
+unfolding openTo
+takes-advance t s x u es from g z = record { goes = g; within = omega arith; quiet = rw z }
+
+pub takes-head : (t : Table) (s : State) (x : Step) (u : State) (es : List ℕ) (from : ℕ) → tableFits t ≡ true → stateFits t s ≡ true → Goes t s x u es → (i at : ℕ) → headNumber x ≡ i → at ≡ place i
+    → from ≡ at → openTo s (place (headNumber x)) ≡ [] → Takes t s x u es from
+takes-head t s x u es from f h g i at p q z e =
+    let a : from ≡ place (headNumber x) = z ∙ q ∙ ap place (sym p) in
+    record {
+      goes = g;
+      within = let l = place-within t (s .clock) x (ready t s f h x (g .accepted)) in omega arith;
+      quiet = rw (g .moves, a) (nothing-below t s x (table-meets t f .propagation) e);
+    }
 
 -- ---- a run by the policy: what is left of it after k of n steps
 

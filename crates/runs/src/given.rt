@@ -3,12 +3,13 @@ use crate::Ran;
 use crate::stopped;
 use rules::State;
 use rules::Table;
-use steps::calendar_after;
-use steps::clock_after;
-use steps::head_after;
+use steps::advancing;
+use steps::hearing;
+use steps::instant;
 use steps::place;
+use steps::sending;
 use steps::timeouts;
-use steps::verdict;
+use steps::timing;
 use words::Refusal;
 use words::Step;
 use words::Verdict;
@@ -29,8 +30,8 @@ pub fn run_given(t: Table, s: State, pairs: &[u8]) -> Ran
     run_given_fit(t, s, pairs)
 }
 
-// The same on a table and a state that are known to fit. The state is kept in place, and its timeouts beside it: a step changes the
-// clock, the calendar and one head.
+// The same on a table and a state that are known to fit. The state is kept in place, and its timeouts beside it, and each kind of
+// step stores only what it changes: a body that is a function of its own would copy the state twice for every step.
 pub fn run_given_fit(t: Table, s: State, pairs: &[u8]) -> Ran
     requires { ⌜ (tableFits t ≡ true) × (stateFits t s ≡ true) ⌝ }
     ensures { λ r. ⌜ told r ≡ runFrom t s 0 (now (pairs .entry)) ⌝ }
@@ -43,19 +44,49 @@ pub fn run_given_fit(t: Table, s: State, pairs: &[u8]) -> Ran
         let x = Step::read(pairs[k], pairs[k + 1]);
         let clock = current.clock;
         let c = current.calendar;
-        let at = place(x.head());
-        let h = current.heads[at];
-        let later = clock_after(&all, t.n, clock, c, x);
-        let v = verdict(t, clock, later, c, h, x);
-        let Verdict::Accepted = v else {
-            return stopped(current, accepted, v);
-        };
-        let after = calendar_after(t, clock, c, h, x);
-        let moved = head_after(t, clock, c, h, x);
-        current.clock = later;
-        current.calendar = after;
-        current.heads[at] = moved;
-        all[at] = moved.timeout;
+        match x {
+            Step::Advance => {
+                let next = instant(&all, t.n, c);
+                let v = advancing::verdict(clock, next);
+                let Verdict::Accepted = v else {
+                    return stopped(current, accepted, v);
+                };
+                current.clock = next;
+            }
+            Step::Timer(i) => {
+                let at = place(i);
+                let h = current.heads[at];
+                let v = timing::verdict(t, clock, h, i);
+                let Verdict::Accepted = v else {
+                    return stopped(current, accepted, v);
+                };
+                let p = h.phase;
+                let kind = timing::timer_frame(t, i, p);
+                if kind != 0 {
+                    let after = sending::send(t, clock, kind, i, c);
+                    current.calendar = after;
+                }
+                let moved = timing::timer_head(t, clock, i, p);
+                current.heads[at] = moved;
+                all[at] = moved.timeout;
+            }
+            Step::Hear(i) => {
+                let v = hearing::verdict(t, clock, c, i);
+                let Verdict::Accepted = v else {
+                    return stopped(current, accepted, v);
+                };
+                let at = place(i);
+                let h = current.heads[at];
+                let p = h.phase;
+                let after = sending::left(c, i);
+                current.calendar = after;
+                if hearing::waits(p) {
+                    let moved = hearing::hear_head(t, clock, i, c, h);
+                    current.heads[at] = moved;
+                    all[at] = moved.timeout;
+                }
+            }
+        }
         accepted += 1;
         k += 2;
     }

@@ -4,11 +4,13 @@ use crate::search::first_due;
 use crate::stopped;
 use rules::State;
 use rules::Table;
-use steps::calendar_after;
-use steps::clock_after;
-use steps::head_after;
+use steps::hearing;
+use steps::instant;
 use steps::place;
+use steps::sending;
 use steps::timeouts;
+use steps::timing;
+use words::Step;
 use words::Verdict;
 ghost use mathlib.Core.Path.{_≡_};
 ghost use mathlib.Core.Bool.{true};
@@ -40,9 +42,9 @@ pub fn run_policy_fit(t: Table, s: State, count: usize) -> Ran
     policy_from(t, s, count)
 }
 
-// The run itself, on a table and a state that fit. The state is kept in place, and its timeouts beside it. A step leaves nothing due
-// at heads below the one that moved, so the next search starts there; where nothing is due the search yields advance, and only the
-// ceiling can stop that.
+// The run itself, on a table and a state that fit, in place as a given run is. What the search finds is due, so it is done without
+// another test; only an advance can be stopped, by the ceiling. A step leaves nothing due at heads below the one that moved, so the
+// next search starts there.
 fn policy_from(t: Table, s: State, count: usize) -> Ran
     requires { ⌜ (tableFits t ≡ true) × (stateFits t s ≡ true) ⌝ }
     ensures { λ r. ⌜ told r ≡ policyFrom t s 0 count ⌝ }
@@ -55,19 +57,43 @@ fn policy_from(t: Table, s: State, count: usize) -> Ran
         let clock = current.clock;
         let c = current.calendar;
         let x = first_due(&all, clock, c, from, t.n);
-        let later = clock_after(&all, t.n, clock, c, x);
-        if State::CEILING < later {
-            break;
+        match x {
+            Step::Advance => {
+                let next = instant(&all, t.n, c);
+                if State::CEILING < next {
+                    break;
+                }
+                current.clock = next;
+                from = 0;
+            }
+            Step::Timer(i) => {
+                let at = place(i);
+                let h = current.heads[at];
+                let p = h.phase;
+                let kind = timing::timer_frame(t, i, p);
+                if kind != 0 {
+                    let after = sending::send(t, clock, kind, i, c);
+                    current.calendar = after;
+                }
+                let moved = timing::timer_head(t, clock, i, p);
+                current.heads[at] = moved;
+                all[at] = moved.timeout;
+                from = at;
+            }
+            Step::Hear(i) => {
+                let at = place(i);
+                let h = current.heads[at];
+                let p = h.phase;
+                let after = sending::left(c, i);
+                current.calendar = after;
+                if hearing::waits(p) {
+                    let moved = hearing::hear_head(t, clock, i, c, h);
+                    current.heads[at] = moved;
+                    all[at] = moved.timeout;
+                }
+                from = at;
+            }
         }
-        let at = place(x.head());
-        let h = current.heads[at];
-        let after = calendar_after(t, clock, c, h, x);
-        let moved = head_after(t, clock, c, h, x);
-        current.clock = later;
-        current.calendar = after;
-        current.heads[at] = moved;
-        all[at] = moved.timeout;
-        from = at;
         taken += 1;
     }
     stopped(current, taken, Verdict::Accepted)

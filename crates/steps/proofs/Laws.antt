@@ -27,7 +27,7 @@ use Rattle.rules.specs.State.{headIn, listenWait, coldstartWait}
 use Rattle.rules.specs.Step.{slotAfter, timerHead, timerFrame, sends, listenerWait, joined, hearHead}
 use Rattle.rules.proofs.Meaning.{is-quiet, not-quiet}
 use Rattle.rules.proofs.Waits.{coldstart-le}
-use Rattle.steps.specs.Parts.{least, instant, clockAfter, calendarAfter, headAfter, advanceRefusal, timerRefusal, hearRefusal, partRefusal}
+use Rattle.steps.specs.Parts.{waits, least, instant, clockAfter, calendarAfter, headAfter, advanceRefusal, timerRefusal, hearRefusal, partRefusal}
 use Rattle.steps.specs.Ready.{Sender, Ready}
 
 -- ---- sums of ticks
@@ -126,6 +126,24 @@ module _ (t : Table) (clock i : ℕ) (c : Calendar) (h : Head) where
   pub hear-coldstart : h .phase ≡ Coldstart → joined t clock c ≡ hearHead t clock i c h (h .phase)
   unfolding hearHead
   hear-coldstart e = rw e
+
+-- who waits for a frame, by the phase
+module _ (p : Phase) where
+  pub waits-init : p ≡ Init → false ≡ waits p
+  unfolding waits
+  waits-init e = rw e
+
+  pub waits-listen : p ≡ Listen → true ≡ waits p
+  unfolding waits
+  waits-listen e = rw e
+
+  pub waits-coldstart : p ≡ Coldstart → true ≡ waits p
+  unfolding waits
+  waits-coldstart e = rw e
+
+  pub waits-active : (k : ℕ) → p ≡ Active k → false ≡ waits p
+  unfolding waits
+  waits-active k e = rw e
 
 -- ---- the next instant
 

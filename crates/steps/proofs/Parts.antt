@@ -1,7 +1,7 @@
 -- Together the parts are the step: on a table and a state that fit, what they refuse and what they make is what the rules say.
 use mathlib.Core.Path.{_≡_, refl, sym, ap, _∙_}
 use mathlib.Core.Bool.{Bool, true, false, not}
-use mathlib.Core.Logic.{⊎-elim}
+use mathlib.Core.Logic.{_⊎_, inl, inr, ⊎-elim}
 use mathlib.Core.List.{List, [], _∷_, map}
 use Prim.Native.Nat.{ℕ, zero, suc, _+_, _-_, _≤_, _<_, min}
 use native.Mathlib.Omega.{arith}
@@ -15,20 +15,23 @@ use Rattle.words.specs.declared.Refusal.the-variants.{NoSuchStep, SomethingDue,
 use Rattle.words.specs.Refusal.{unless, firstOf}
 use Rattle.words.specs.Pair.{headNumber}
 use Rattle.words.proofs.Order.{unless-is, unless-not, first-some, first-none, row-is}
+use Rattle.rules.specs.declared.Phase.{Phase}
+use Rattle.rules.specs.declared.Phase.the-variants.{Init, Listen, Coldstart, Active}
 use Rattle.rules.specs.declared.Head.{Head}
 use Rattle.rules.specs.declared.Calendar.{Calendar}
 use Rattle.rules.specs.declared.State.{State}
 use Rattle.rules.specs.declared.Table.{Table}
 use Rattle.rules.specs.Limits.{maxHeads}
 use Rattle.rules.specs.Table.{isHead, tableFits}
+use Rattle.rules.specs.Calendar.{left, send}
 use Rattle.rules.specs.State.{noHead, headOf, put, timeoutOf, phaseOf, stateFits}
 use Rattle.rules.specs.Step.{timerDue, due, leastTimeout, nextInstant, timerHead, timerFrame, sends, hearHead, advance, timer, hear, moved}
 use Rattle.rules.specs.Judge.{nameRefusal, dueRefusal, lastRefusal, stepRefusal, stateAfter}
-use Rattle.rules.proofs.Each.{same?, less?, either?, is-between}
+use Rattle.rules.proofs.Each.{same?, less?, either?, is-between, no-both}
 use Rattle.rules.proofs.Meaning.{head-is, table-meets, state-meets}
 use Rattle.rules.proofs.Checks.{head-at}
 use Rattle.rules.proofs.Moves.{due-is-now}
-use Rattle.steps.specs.Parts.{place, timeouts, least, instant, clockAfter, calendarAfter, headAfter, advanceRefusal, timerRefusal, hearRefusal, partRefusal}
+use Rattle.steps.specs.Parts.{place, waits, timeouts, least, instant, clockAfter, calendarAfter, headAfter, advanceRefusal, timerRefusal, hearRefusal, partRefusal}
 use Rattle.steps.specs.Ready.{Sender, Ready}
 
 -- ---- places
@@ -195,6 +198,96 @@ module _ (t : Table) (s : State) (f : tableFits t ≡ true) (g : stateFits t s �
       → (h : Head) → h ≡ headAfter t (s .clock) (s .calendar) (getD (s .heads) at noHead) x
       → record { clock = later; n = s .n; calendar = c; heads = set (s .heads) at h } ≡ moved t s x
   whole = moved-at t s f g at later x (q ∙ ap place p) (rw r at b)
+
+hear-still : (t : Table) (clock i : ℕ) (c : Calendar) (h : Head) (p : Phase) → waits p ≡ false → hearHead t clock i c h p ≡ h
+unfolding hearHead waits
+hear-still t clock i c h Init w = refl
+hear-still t clock i c h Listen w = no-both w
+hear-still t clock i c h Coldstart w = no-both w
+hear-still t clock i c h (Active k) w = refl
+
+-- ---- a step on a state that is kept in place, with its timeouts beside it: what the code comes to is the step, and it is accepted
+
+pub record Goes (t : Table) (s : State) (x : Step) (u : State) (es : List ℕ) : Type 0 where
+  pub accepted : stepRefusal t s x ≡ 0
+  pub moves : u ≡ moved t s x
+  pub beside : es ≡ timeouts (u .heads)
+
+module _ (t : Table) (s : State) (f : tableFits t ≡ true) (g : stateFits t s ≡ true) (es : List ℕ) (r : es ≡ timeouts (s .heads)) (x : Step) (u : State) (e : List ℕ) where
+  pub goes-advance : x ≡ Advance → (next : ℕ) → next ≡ instant es (t .n) (s .calendar) → advanceRefusal (s .clock) next ≡ 0
+      → u ≡ record { clock = next; n = s .n; calendar = s .calendar; heads = s .heads } → e ≡ es → Goes t s x u e
+  unfolding moved advance
+  goes-advance p next q z m k =
+      let q′ : next ≡ instant (timeouts (s .heads)) (t .n) (s .calendar) = q ∙ ap (λ (y : List ℕ). instant y (t .n) (s .calendar)) r in
+      record {
+        accepted = rw p (sym (advance-refusal t s f g) ∙ (rw q′ at z));
+        moves = rw p (m ∙ (λ j. record { clock = (q′ ∙ instant-is t s) j; n = s .n; calendar = s .calendar; heads = s .heads }));
+        beside = rw m (k ∙ r);
+      }
+
+  module _ (at i : ℕ) (a : at ≡ place i) where
+    pub goes-timer : x ≡ Timer i → timerRefusal t (s .clock) (getD (s .heads) at noHead) i ≡ 0
+        → (kind : ℕ) → kind ≡ timerFrame t i (getD (s .heads) at noHead .phase)
+        → (mid : State) → mid ≡ record { clock = s .clock; n = s .n; calendar = sends t (s .clock) kind i (s .calendar); heads = s .heads }
+        → (h : Head) → h ≡ timerHead t (s .clock) i (getD (s .heads) at noHead .phase)
+        → u ≡ record { clock = mid .clock; n = mid .n; calendar = mid .calendar; heads = set (mid .heads) at h } → e ≡ set es at (h .timeout) → Goes t s x u e
+    unfolding clockAfter calendarAfter headAfter
+    goes-timer p z kind d mid c h q m k =
+        let y : stepRefusal t s (Timer i) ≡ 0 = sym (timer-refusal t s f g i) ∙ (rw a at z) in
+        let v : u ≡ record { clock = s .clock; n = s .n; calendar = sends t (s .clock) kind i (s .calendar); heads = set (s .heads) at h } = m ∙ rw c in
+        record {
+          accepted = rw p y;
+          moves = rw p (v ∙ moved-at t s f g at (s .clock) (Timer i) a refl y _ (ap (λ (n : ℕ). sends t (s .clock) n i (s .calendar)) d) h q);
+          beside = rw v (k ∙ rw r (timeouts-set (s .heads) at h));
+        }
+
+    module _ (p : x ≡ Hear i) (z : hearRefusal t (s .clock) (s .calendar) i ≡ 0) (c : Calendar) (d : c ≡ left (s .calendar) i) where
+      pub goes-hear : (h : Head) → h ≡ hearHead t (s .clock) i (s .calendar) (getD (s .heads) at noHead) (getD (s .heads) at noHead .phase)
+          → u ≡ record { clock = s .clock; n = s .n; calendar = c; heads = set (s .heads) at h } → e ≡ set es at (h .timeout) → Goes t s x u e
+      unfolding clockAfter calendarAfter headAfter
+      goes-hear h q m k =
+          let y : stepRefusal t s (Hear i) ≡ 0 = sym (hear-refusal t s f g i) ∙ z in
+          record {
+            accepted = rw p y;
+            moves = rw p (m ∙ moved-at t s f g at (s .clock) (Hear i) a refl y c d h q);
+            beside = rw m (k ∙ rw r (timeouts-set (s .heads) at h));
+          }
+
+      -- a head that waits for nothing stays as it is
+      pub goes-still : waits (getD (s .heads) at noHead .phase) ≡ false → u ≡ record { clock = s .clock; n = s .n; calendar = c; heads = s .heads } → e ≡ es → Goes t s x u e
+      goes-still w m k =
+          let h = getD (s .heads) at noHead in
+          goes-hear h (sym (hear-still t (s .clock) i (s .calendar) h (h .phase) w))
+          (m ∙ ap (λ (hs : List Head). record { clock = s .clock; n = s .n; calendar = c; heads = hs }) (sym (set-getD (s .heads) at noHead)))
+          (k ∙ sym (ap (set es at) (sym (timeout-at (s .heads) at) ∙ ap (λ (y : List ℕ). getD y at 0) (sym r)) ∙ set-getD es at 0))
+
+-- what each kind is refused with, and who may send once it is not
+module _ (t : Table) (s : State) (f : tableFits t ≡ true) (g : stateFits t s ≡ true) (x : Step) where
+  pub same-advance : x ≡ Advance → (es : List ℕ) → es ≡ timeouts (s .heads) → (next : ℕ) → next ≡ instant es (t .n) (s .calendar) → advanceRefusal (s .clock) next ≡ stepRefusal t s x
+  same-advance p es r next q = rw (p, q, r) (advance-refusal t s f g)
+
+  pub same-timer : (at i : ℕ) → at ≡ place i → x ≡ Timer i → timerRefusal t (s .clock) (getD (s .heads) at noHead) i ≡ stepRefusal t s x
+  same-timer at i a p = rw (p, a) (timer-refusal t s f g i)
+
+  pub same-hear : (i : ℕ) → x ≡ Hear i → hearRefusal t (s .clock) (s .calendar) i ≡ stepRefusal t s x
+  same-hear i p = rw p (hear-refusal t s f g i)
+
+  pub timer-sender : (i : ℕ) → x ≡ Timer i → stepRefusal t s x ≡ 0 → Sender t (s .clock) i
+  timer-sender i p z = sender t s f g i (timer-named t s f g i (rw p at z))
+
+  pub hear-sender : (i : ℕ) → x ≡ Hear i → stepRefusal t s x ≡ 0 → Sender t (s .clock) i
+  hear-sender i p z = sender t s f g i (hear-named t s f g i (rw p at z))
+
+-- the calendar after a timer that may send
+module _ (t : Table) (s mid : State) (kind i : ℕ) where
+  pub sends-mid : (kind ≡ 0 → ⊥) → (c : Calendar) → c ≡ send t (s .clock) kind i (s .calendar) → mid ≡ record { clock = s .clock; n = s .n; calendar = c; heads = s .heads }
+      → mid ≡ record { clock = s .clock; n = s .n; calendar = sends t (s .clock) kind i (s .calendar); heads = s .heads }
+  unfolding sends
+  sends-mid n c q m = m ∙ rw (ne-eqb kind 0 n, q)
+
+  pub silent-mid : kind ≡ 0 → mid ≡ s → mid ≡ record { clock = s .clock; n = s .n; calendar = sends t (s .clock) kind i (s .calendar); heads = s .heads }
+  unfolding sends
+  silent-mid n m = m ∙ rw n
 
 -- ---- what an attempted step answers
 

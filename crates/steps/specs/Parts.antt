@@ -1,6 +1,6 @@
 -- A step on the parts of a state: what each rule of document 01 reads and what it changes, with nothing of the state besides. proofs/Parts shows that together
 -- they are the step.
-use mathlib.Core.Bool.{cond, not}
+use mathlib.Core.Bool.{Bool, true, false, cond, not}
 use mathlib.Core.List.{List, [], _∷_, map}
 use Prim.Native.Nat.{ℕ, zero, suc, _-_, min}
 use lib.Dec.{eqb, leb}
@@ -9,6 +9,8 @@ use Rattle.words.specs.declared.Step.{Step}
 use Rattle.words.specs.declared.Step.the-variants.{Advance, Timer, Hear}
 use Rattle.words.specs.declared.Refusal.the-variants.{NoSuchStep, SomethingDue, TimerNotDue, NotHearing, PastCeiling, OwnFrame}
 use Rattle.words.specs.Refusal.{unless, firstOf}
+use Rattle.rules.specs.declared.Phase.{Phase}
+use Rattle.rules.specs.declared.Phase.the-variants.{Init, Listen, Coldstart, Active}
 use Rattle.rules.specs.declared.Head.{Head}
 use Rattle.rules.specs.declared.Calendar.{Calendar}
 use Rattle.rules.specs.declared.Table.{Table}
@@ -52,6 +54,13 @@ unfoldable pub headAfter : Table → ℕ → Calendar → Head → Step → Head
 headAfter t clock c h Advance = h
 headAfter t clock c h (Timer i) = timerHead t clock i (h .phase)
 headAfter t clock c h (Hear i) = hearHead t clock i c h (h .phase)
+
+-- whether a head in a phase changes when it hears a frame
+unfoldable pub waits : Phase → Bool
+waits Init = false
+waits Listen = true
+waits Coldstart = true
+waits (Active k) = false
 
 -- "then 7; then 8, 9 or 10 by kind; then 11 or 13", an advance by the instant it comes to
 unfoldable pub advanceRefusal : ℕ → ℕ → ℕ

@@ -10,7 +10,7 @@ ghost use Prim.Native.Nat.{_≤_};
 ghost use Rattle.words.specs.Refusal.{verdictNumber};
 ghost use Rattle.rules.specs.Limits.{longestSlot, ceiling};
 ghost use Rattle.rules.specs.Step.{listenerWait, joined, hearHead};
-ghost use Rattle.steps.specs.Parts.{hearRefusal};
+ghost use Rattle.steps.specs.Parts.{waits, hearRefusal};
 ghost use Rattle.steps.specs.Ready.{Sender};
 
 // How long a listener waits that hears a coldstart frame.
@@ -51,6 +51,18 @@ pub fn hear_head(t: Table, clock: u32, i: u8, c: Calendar, h: Head) -> Head
         }
         Phase::Coldstart => joined(t, clock, c),
         Phase::Active(_) => h,
+    }
+}
+
+// Whether a head in a phase waits for a frame: any other phase stays as it is when it hears one.
+pub fn waits(p: Phase) -> bool
+    ensures { λ r. ⌜ r ≡ waits p ⌝ }
+{
+    match p {
+        Phase::Init => false,
+        Phase::Listen => true,
+        Phase::Coldstart => true,
+        Phase::Active(_) => false,
     }
 }
 

@@ -1,7 +1,7 @@
-// The steps themselves, on a table and a state that are known to fit: what each makes of the clock, of the calendar and of the head
-// that it names, and a proposed step attempted on a whole state. Nothing here looks at the record rules again, so a run can check
-// its table and state once and then step, and the parts let it do so in place. It uses hearers and rules; judge puts the record
-// checks in front of it for everybody else.
+// The steps themselves, on a table and a state that are known to fit: what each kind makes of the clock, of the calendar and of the
+// head that it names, and a proposed step attempted on a whole state. Nothing here looks at the record rules again, so a run can
+// check its table and state once and then step, and the parts let it do so in place. It uses words, hearers and rules; judge puts
+// the record checks in front of it for everybody else.
 use rules::Calendar;
 use rules::Head;
 use rules::Judged;
@@ -19,13 +19,12 @@ ghost use Rattle.rules.specs.Judge.{stepRefusal, stateAfter};
 ghost use Rattle.steps.specs.Parts.{partRefusal, calendarAfter, headAfter};
 ghost use Rattle.steps.specs.Ready.{Ready};
 
-mod advancing;
-mod hearing;
+pub mod advancing;
+pub mod hearing;
 mod places;
-mod sending;
-mod timing;
+pub mod sending;
+pub mod timing;
 
-pub use advancing::clock_after;
 pub use advancing::instant;
 pub use places::place;
 pub use places::timeouts;
@@ -39,7 +38,7 @@ pub fn attempt(t: Table, s: State, x: Step) -> Judged
     let at = place(x.head());
     let h = s.heads[at];
     let all = timeouts(s);
-    let later = clock_after(&all, t.n, s.clock, c, x);
+    let later = advancing::clock_after(&all, t.n, s.clock, c, x);
     let v = verdict(t, s.clock, later, c, h, x);
     let Verdict::Accepted = v else {
         return Judged {
@@ -58,7 +57,7 @@ pub fn attempt(t: Table, s: State, x: Step) -> Judged
 }
 
 // Whether a step is accepted, by the clock after it and the head that it names.
-pub fn verdict(t: Table, clock: u32, later: u32, c: Calendar, h: Head, x: Step) -> Verdict
+fn verdict(t: Table, clock: u32, later: u32, c: Calendar, h: Head, x: Step) -> Verdict
     requires { ⌜ t .n ≤ 64 ⌝ }
     ensures { λ r. ⌜ verdictNumber r ≡ partRefusal t clock later c h x ⌝ }
 {
@@ -70,7 +69,7 @@ pub fn verdict(t: Table, clock: u32, later: u32, c: Calendar, h: Head, x: Step) 
 }
 
 // The calendar after a step.
-pub fn calendar_after(t: Table, clock: u32, c: Calendar, h: Head, x: Step) -> Calendar
+fn calendar_after(t: Table, clock: u32, c: Calendar, h: Head, x: Step) -> Calendar
     requires { ⌜ Ready t clock x ⌝ }
     ensures { λ r. ⌜ r ≡ calendarAfter t clock c h x ⌝ }
 {
@@ -86,7 +85,7 @@ pub fn calendar_after(t: Table, clock: u32, c: Calendar, h: Head, x: Step) -> Ca
 }
 
 // The head that a step names, after it.
-pub fn head_after(t: Table, clock: u32, c: Calendar, h: Head, x: Step) -> Head
+fn head_after(t: Table, clock: u32, c: Calendar, h: Head, x: Step) -> Head
     requires { ⌜ Ready t clock x ⌝ }
     ensures { λ r. ⌜ r ≡ headAfter t clock c h x ⌝ }
 {

@@ -48,7 +48,7 @@ fn taken(t: Table, clock: u32, kind: u8, i: u8) -> Calendar
 }
 
 // Send by i at the clock: dropped where hearers wait, and i no longer hears; otherwise taken.
-fn send(t: Table, clock: u32, kind: u8, i: u8, c: Calendar) -> Calendar
+pub fn send(t: Table, clock: u32, kind: u8, i: u8, c: Calendar) -> Calendar
     requires { ⌜ Sender t clock i ⌝ }
     ensures { λ r. ⌜ r ≡ send t clock kind i c ⌝ }
 {

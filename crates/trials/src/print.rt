@@ -132,7 +132,7 @@ fn room(room: &[u8]) {
     }
 }
 
-// How many bytes of a room are told: the longest step list.
+// How many bytes of a room are told: the longest step list that the sheet tries.
 const TOLD: usize = 128;
 
 fn byte(k: usize, x: u8) {

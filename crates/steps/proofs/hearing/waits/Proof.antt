@@ -1,0 +1,33 @@
+use Rattle.steps.proofs.Laws.{waits-init, waits-listen, waits-coldstart, waits-active}
+use borrow.Author.Needs.{needs}
+use Rattle.steps.proofs.hearing.waits.Statement.{statement}
+use Rattle.steps.proofs.hearing.waits.Tie as tie
+
+enum-told : tie.Need-enum-told
+enum-told c = search needs
+
+enum-told-2 : tie.Need-enum-told-2
+enum-told-2 c = search needs
+
+enum-told-3 : tie.Need-enum-told-3
+enum-told-3 c = search needs
+
+enum-told-4 : tie.Need-enum-told-4
+enum-told-4 c = search needs
+
+returns : tie.Need-returns
+returns c = waits-init _ (search needs)
+
+returns-2 : tie.Need-returns-2
+returns-2 c = waits-listen _ (search needs)
+
+returns-3 : tie.Need-returns-3
+returns-3 c = waits-coldstart _ (search needs)
+
+returns-4 : tie.Need-returns-4
+returns-4 c = waits-active _ _ ((c .enum-told4) .given .1)
+
+pub waits-spec : {M : Type 1} → statement M
+waits-spec =
+    tie.close
+    (tie.spec enum-told enum-told-2 enum-told-3 enum-told-4 returns returns-2 returns-3 returns-4)
