@@ -5,7 +5,6 @@ use Prim.Native.Nat.{ℕ, _+_, _*_, _%_}
 use Rattle.words.specs.Refusal.{firstOf}
 use Rattle.words.specs.Pair.{stepOf}
 use Rattle.rules.specs.declared.State.{State}
-use Rattle.rules.specs.declared.Table.{Table}
 use Rattle.rules.specs.Judge.{refusal, judged}
 use Rattle.rules.specs.Room.{writeRefusal, bytesWritten, roomAfter}
 use Rattle.table_images.specs.TableImage.{readTableRefusal, readTable}
@@ -13,7 +12,7 @@ use Rattle.state_images.specs.StateImage.{readStateRefusal, readState, stateIma
 use Rattle.runs.specs.Run.{Outcome, onward, run}
 use Rattle.runs.specs.Chosen.{policy}
 
--- two results in one number: the refusal number in the lowest byte, the count above it, as far as it has place (no memory holds so many steps)
+-- two results in one number: the refusal number in the lowest byte, the count above it, as far as it has place in sixty-four bits: 2^56 (no memory holds so many steps)
 abbrev pub countPlaces : ℕ
 countPlaces = 72_057_594_037_927_936
 

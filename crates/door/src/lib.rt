@@ -1,5 +1,5 @@
 // The door for C and Rust: a few functions on numbers and byte slices, each from a table image and, all but one, a state image. They
-// read the images once, do what the crates below do on records that fit, and write the next state's image into lent room; the
+// read the images once, do what the crates below do on records that fit, and write a state's image or the step list into lent room; the
 // header vapourtrack.h tells a caller the rest. It uses words, rules, table_images, state_images, steps and runs; its proofs use octets.
 use rules::State;
 use rules::Table;
@@ -11,7 +11,6 @@ ghost use mathlib.Core.Path.{_≡_};
 ghost use Prim.Native.Nat.{_≤_};
 ghost use Rattle.words.specs.Refusal.{verdictNumber};
 ghost use Rattle.rules.specs.Limits.{maxHeads};
-ghost use Rattle.rules.specs.Room.{Wrote};
 ghost use Rattle.rules.specs.State.{fresh};
 ghost use Rattle.table_images.specs.TableImage.{readTableRefusal, readTable};
 ghost use Rattle.state_images.specs.StateImage.{stateImage};
@@ -19,7 +18,7 @@ ghost use Rattle.runs.specs.Listing.{listImage};
 ghost use Rattle.runs.specs.Run.{told};
 ghost use Rattle.door.specs.Answers.{answer, stateOf, openRefusal, judgeRefusal, judgedState, givenOutcome, policyOutcome, Handed, Played};
 
-// How many counts have place above the refusal number.
+// 2^56: what is left of sixty-four bits above the refusal number's byte.
 const COUNT_PLACES: u64 = 72057594037927936;
 
 // What the two images of a call hold.

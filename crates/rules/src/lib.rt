@@ -47,7 +47,7 @@ pub struct State {
     pub heads: [Head; 64],
 }
 
-// A verdict beside a state: the next state where it accepts.
+// A verdict beside a state: the next, the fresh or the read state where it accepts.
 pub struct Judged {
     pub verdict: Verdict,
     pub state: State,

@@ -80,7 +80,7 @@ pub fn run_given_fit(t: Table, s: State, pairs: &[u8]) -> Ran
                 let p = h.phase;
                 let after = sending::left(c, i);
                 current.calendar = after;
-                if hearing::waits(p) {
+                if hearing::heeds(p) {
                     let moved = hearing::hear_head(t, clock, i, c, h);
                     current.heads[at] = moved;
                     all[at] = moved.timeout;

@@ -13,6 +13,7 @@ ghost use mathlib.Core.Bool.{true};
 ghost use mathlib.Core.List.{_++_};
 ghost use Prim.Native.Nat.{_+_, _≤_};
 ghost use lib.ListN.{length, take, drop};
+ghost use Rattle.rules.specs.Limits.{maxHeads};
 ghost use Rattle.rules.specs.Table.{tableFits};
 ghost use Rattle.rules.specs.State.{stateFits};
 ghost use Rattle.runs.specs.Open.{openTo, openSteps};
@@ -86,7 +87,7 @@ fn open_pairs(t: Table, s: State) -> Pairs
 
 // What is due, heads rising, timer before hear for one head.
 fn due_pairs(s: State, n: u8) -> Pairs
-    requires { ⌜ n ≤ 64 ⌝ }
+    requires { ⌜ n ≤ maxHeads ⌝ }
     ensures { λ r. ⌜ Holds r (openTo s n) ⌝ }
 {
     let c = s.calendar;

@@ -86,7 +86,7 @@ fn policy_from(t: Table, s: State, count: usize) -> Ran
                 let p = h.phase;
                 let after = sending::left(c, i);
                 current.calendar = after;
-                if hearing::waits(p) {
+                if hearing::heeds(p) {
                     let moved = hearing::hear_head(t, clock, i, c, h);
                     current.heads[at] = moved;
                     all[at] = moved.timeout;

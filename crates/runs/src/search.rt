@@ -3,6 +3,7 @@ use rules::Calendar;
 use words::Step;
 ghost use mathlib.Core.Path.{_≡_};
 ghost use Prim.Native.Nat.{_≤_};
+ghost use Rattle.rules.specs.Limits.{maxHeads};
 ghost use Rattle.words.specs.Pair.{headNumber};
 ghost use Rattle.rules.specs.Calendar.{hearDue};
 ghost use mathlib.Core.List.{[]};
@@ -12,7 +13,7 @@ ghost use Rattle.runs.specs.Search.{dueTo};
 
 // Whether head i hears the frame now.
 pub fn hear_due(clock: u32, c: Calendar, i: u8) -> bool
-    requires { ⌜ (1 ≤ i) × (i ≤ 64) ⌝ }
+    requires { ⌜ (1 ≤ i) × (i ≤ maxHeads) ⌝ }
     ensures { λ r. ⌜ r ≡ hearDue clock c i ⌝ }
 {
     if c.delivery != clock {
@@ -21,10 +22,10 @@ pub fn hear_due(clock: u32, c: Calendar, i: u8) -> bool
     hearers::has(c.hearers, i)
 }
 
-// The first due step of heads 1 to n, timer before hear for one head, where nothing is due at the first places; advance where
-// nothing is due at all.
+// The first due step of heads 1 to n, timer before hear for one head, searched from a place before which nothing is due; advance
+// where nothing is due at all. Nothing is due before the place of what is found, so the next search may start there.
 pub fn first_due(timeouts: &[u32; 64], clock: u32, c: Calendar, from: usize, n: u8) -> Step
-    requires { ⌜ (from ≤ n) × (n ≤ 64) × (dueTo (now timeouts) clock c from ≡ []) ⌝ }
+    requires { ⌜ (from ≤ n) × (n ≤ maxHeads) × (dueTo (now timeouts) clock c from ≡ []) ⌝ }
     ensures first { λ r. ⌜ r ≡ firstOr Step.Advance (dueTo (now (timeouts .entry)) clock c n) ⌝ }
     ensures quiet { λ r. ⌜ dueTo (now (timeouts .entry)) clock c (place (headNumber r)) ≡ [] ⌝ }
 {

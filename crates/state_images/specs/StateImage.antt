@@ -1,4 +1,4 @@
--- Document 01, "The state": the state image, what reads as one against a table, and what a writer does.
+-- Document 01, "The state": the state image, and what reads as one against a table.
 use mathlib.Core.Bool.{Bool, _&&_, _||_}
 use mathlib.Core.List.{List, [], _∷_, _++_}
 use Prim.Native.Nat.{ℕ, zero, suc, _+_, _*_}
@@ -15,10 +15,8 @@ use Rattle.rules.specs.declared.State.{State}
 use Rattle.rules.specs.Each.{every}
 use Rattle.rules.specs.Table.{tableRefusal}
 use Rattle.rules.specs.State.{phaseNumber, slotNumber, headIn, noHead, headOf, stateRefusal, blank}
-use Rattle.rules.specs.Judge.{recordRefusal}
 use Rattle.octets.specs.Bytes.{numberAt}
 use Rattle.octets.specs.Fields.{Field, bits8, bits32, bits64, lettersOf, openingFields, inBytes, joined, placeOf, places, isMarked, countIn, orBlank}
-use Rattle.rules.specs.Room.{writeRefusal}
 
 -- "mark `HST`"
 abbrev pub stateMark : ℕ

@@ -1,7 +1,8 @@
 -- The steps case by case and in the code's own terms: each return of a function cites one law.
 use mathlib.Core.Path.{_≡_, refl, sym, ap, _∙_}
 use mathlib.Core.Bool.{true, false, not}
-use mathlib.Core.List.{List}
+use mathlib.Core.Logic.{_⊎_, inl, inr, ⊎-elim}
+use mathlib.Core.List.{List, [], _∷_}
 use Prim.Native.Nat.{ℕ, _+_, _-_, _≤_, _<_}
 use native.Mathlib.Nat.{min-eq-left, min-eq-right, le-of-lt}
 use native.Mathlib.Numerals.{add-one}
@@ -9,6 +10,9 @@ use native.Mathlib.Omega.{arith}
 use lib.Dec.{eqb, leb}
 use lib.ListN.{getD}
 use borrow.Author.Tests.{eq-eqb, ne-eqb, lt-ltb, le-ltb, lt-leb, le-leb}
+use types.Run.{OneOf}
+use denote.Enum.Declared.{tagOf}
+use Rattle.rules.proofs.Phase.{the-type}
 use Rattle.hearers.specs.Set.{has, without, allBut}
 use Rattle.words.specs.declared.Step.{Step}
 use Rattle.words.specs.declared.Step.the-variants.{Advance, Timer, Hear}
@@ -27,7 +31,7 @@ use Rattle.rules.specs.State.{headIn, listenWait, coldstartWait}
 use Rattle.rules.specs.Step.{slotAfter, timerHead, timerFrame, sends, listenerWait, joined, hearHead}
 use Rattle.rules.proofs.Meaning.{is-quiet, not-quiet}
 use Rattle.rules.proofs.Waits.{coldstart-le}
-use Rattle.steps.specs.Parts.{waits, least, instant, clockAfter, calendarAfter, headAfter, advanceRefusal, timerRefusal, hearRefusal, partRefusal}
+use Rattle.steps.specs.Parts.{heeds, least, instant, clockAfter, calendarAfter, headAfter, advanceRefusal, timerRefusal, hearRefusal, partRefusal}
 use Rattle.steps.specs.Ready.{Sender, Ready}
 
 -- ---- sums of ticks
@@ -66,18 +70,23 @@ pub slot-first : (t : Table) (k : ℕ) → t .n ≤ k → 1 ≡ slotAfter t k
 unfolding slotAfter
 slot-first t k l = rw (le-ltb _ _ l)
 
+-- the two phases in which a timer sends a coldstart frame, by their tags
+tries : (p : Phase) → OneOf (1 ∷ 2 ∷ []) (tagOf the-type p) → (p ≡ Listen) ⊎ (p ≡ Coldstart)
+tries Init (inl e) = absurd (omega arith)
+tries Init (inr e) = absurd (omega arith)
+tries Listen o = inl refl
+tries Coldstart o = inr refl
+tries (Active k) (inl e) = absurd (omega arith)
+tries (Active k) (inr e) = absurd (omega arith)
+
 module _ (t : Table) (clock i : ℕ) (p : Phase) where
   pub timer-init : p ≡ Init → (w : ℕ) → w ≡ listenWait t i → headIn Listen (clock + w) ≡ timerHead t clock i p
   unfolding timerHead
   timer-init e w f = rw (e, f)
 
-  pub timer-listen : p ≡ Listen → (w : ℕ) → w ≡ coldstartWait t i → headIn Coldstart (clock + w) ≡ timerHead t clock i p
+  pub timer-tries : OneOf (1 ∷ 2 ∷ []) (tagOf the-type p) → (w : ℕ) → w ≡ coldstartWait t i → headIn Coldstart (clock + w) ≡ timerHead t clock i p
   unfolding timerHead
-  timer-listen e w f = rw (e, f)
-
-  pub timer-coldstart : p ≡ Coldstart → (w : ℕ) → w ≡ coldstartWait t i → headIn Coldstart (clock + w) ≡ timerHead t clock i p
-  unfolding timerHead
-  timer-coldstart e w f = rw (e, f)
+  timer-tries o w f = rw f (⊎-elim (λ e. rw e) (λ e. rw e) (tries p o))
 
   pub timer-active : (k : ℕ) → p ≡ Active k → (next : ℕ) → next ≡ slotAfter t k → headIn (Active next) (clock + t .s) ≡ timerHead t clock i p
   unfolding timerHead
@@ -88,13 +97,9 @@ module _ (t : Table) (i : ℕ) (p : Phase) where
   unfolding timerFrame
   frame-init e = rw e
 
-  pub frame-listen : p ≡ Listen → coldstartFrame ≡ timerFrame t i p
+  pub frame-tries : OneOf (1 ∷ 2 ∷ []) (tagOf the-type p) → coldstartFrame ≡ timerFrame t i p
   unfolding timerFrame
-  frame-listen e = rw e
-
-  pub frame-coldstart : p ≡ Coldstart → coldstartFrame ≡ timerFrame t i p
-  unfolding timerFrame
-  frame-coldstart e = rw e
+  frame-tries o = ⊎-elim (λ e. rw e) (λ e. rw e) (tries p o)
 
   pub frame-own : (k : ℕ) → p ≡ Active k → (next : ℕ) → next ≡ slotAfter t k → next ≡ i → iFrame ≡ timerFrame t i p
   unfolding timerFrame
@@ -127,23 +132,23 @@ module _ (t : Table) (clock i : ℕ) (c : Calendar) (h : Head) where
   unfolding hearHead
   hear-coldstart e = rw e
 
--- who waits for a frame, by the phase
+-- who heeds a frame, by the phase
 module _ (p : Phase) where
-  pub waits-init : p ≡ Init → false ≡ waits p
-  unfolding waits
-  waits-init e = rw e
+  pub heeds-init : p ≡ Init → false ≡ heeds p
+  unfolding heeds
+  heeds-init e = rw e
 
-  pub waits-listen : p ≡ Listen → true ≡ waits p
-  unfolding waits
-  waits-listen e = rw e
+  pub heeds-listen : p ≡ Listen → true ≡ heeds p
+  unfolding heeds
+  heeds-listen e = rw e
 
-  pub waits-coldstart : p ≡ Coldstart → true ≡ waits p
-  unfolding waits
-  waits-coldstart e = rw e
+  pub heeds-coldstart : p ≡ Coldstart → true ≡ heeds p
+  unfolding heeds
+  heeds-coldstart e = rw e
 
-  pub waits-active : (k : ℕ) → p ≡ Active k → false ≡ waits p
-  unfolding waits
-  waits-active k e = rw e
+  pub heeds-active : (k : ℕ) → p ≡ Active k → false ≡ heeds p
+  unfolding heeds
+  heeds-active k e = rw e
 
 -- ---- the next instant
 

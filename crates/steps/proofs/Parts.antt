@@ -31,7 +31,7 @@ use Rattle.rules.proofs.Each.{same?, less?, either?, is-between, no-both}
 use Rattle.rules.proofs.Meaning.{head-is, table-meets, state-meets}
 use Rattle.rules.proofs.Checks.{head-at}
 use Rattle.rules.proofs.Moves.{due-is-now}
-use Rattle.steps.specs.Parts.{place, waits, timeouts, least, instant, clockAfter, calendarAfter, headAfter, advanceRefusal, timerRefusal, hearRefusal, partRefusal}
+use Rattle.steps.specs.Parts.{place, heeds, timeouts, least, instant, clockAfter, calendarAfter, headAfter, advanceRefusal, timerRefusal, hearRefusal, partRefusal}
 use Rattle.steps.specs.Ready.{Sender, Ready}
 
 -- ---- places
@@ -199,8 +199,8 @@ module _ (t : Table) (s : State) (f : tableFits t ≡ true) (g : stateFits t s �
       → record { clock = later; n = s .n; calendar = c; heads = set (s .heads) at h } ≡ moved t s x
   whole = moved-at t s f g at later x (q ∙ ap place p) (rw r at b)
 
-hear-still : (t : Table) (clock i : ℕ) (c : Calendar) (h : Head) (p : Phase) → waits p ≡ false → hearHead t clock i c h p ≡ h
-unfolding hearHead waits
+hear-still : (t : Table) (clock i : ℕ) (c : Calendar) (h : Head) (p : Phase) → heeds p ≡ false → hearHead t clock i c h p ≡ h
+unfolding hearHead heeds
 hear-still t clock i c h Init w = refl
 hear-still t clock i c h Listen w = no-both w
 hear-still t clock i c h Coldstart w = no-both w
@@ -253,8 +253,8 @@ module _ (t : Table) (s : State) (f : tableFits t ≡ true) (g : stateFits t s �
             beside = rw m (k ∙ rw r (timeouts-set (s .heads) at h));
           }
 
-      -- a head that waits for nothing stays as it is
-      pub goes-still : waits (getD (s .heads) at noHead .phase) ≡ false → u ≡ record { clock = s .clock; n = s .n; calendar = c; heads = s .heads } → e ≡ es → Goes t s x u e
+      -- a head that heeds no frame stays as it is
+      pub goes-still : heeds (getD (s .heads) at noHead .phase) ≡ false → u ≡ record { clock = s .clock; n = s .n; calendar = c; heads = s .heads } → e ≡ es → Goes t s x u e
       goes-still w m k =
           let h = getD (s .heads) at noHead in
           goes-hear h (sym (hear-still t (s .clock) i (s .calendar) h (h .phase) w))

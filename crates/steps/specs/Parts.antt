@@ -56,11 +56,11 @@ headAfter t clock c h (Timer i) = timerHead t clock i (h .phase)
 headAfter t clock c h (Hear i) = hearHead t clock i c h (h .phase)
 
 -- whether a head in a phase changes when it hears a frame
-unfoldable pub waits : Phase → Bool
-waits Init = false
-waits Listen = true
-waits Coldstart = true
-waits (Active k) = false
+unfoldable pub heeds : Phase → Bool
+heeds Init = false
+heeds Listen = true
+heeds Coldstart = true
+heeds (Active k) = false
 
 -- "then 7; then 8, 9 or 10 by kind; then 11 or 13", an advance by the instant it comes to
 unfoldable pub advanceRefusal : ℕ → ℕ → ℕ

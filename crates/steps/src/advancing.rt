@@ -6,12 +6,13 @@ use words::Step;
 use words::Verdict;
 ghost use mathlib.Core.Path.{_≡_};
 ghost use Prim.Native.Nat.{_≤_};
+ghost use Rattle.rules.specs.Limits.{maxHeads};
 ghost use Rattle.words.specs.Refusal.{verdictNumber};
 ghost use Rattle.steps.specs.Parts.{least, instant, clockAfter, advanceRefusal};
 
 // The least of the first n timeouts.
 fn least(timeouts: &[u32; 64], n: u8) -> u32
-    requires { ⌜ (1 ≤ n) × (n ≤ 64) ⌝ }
+    requires { ⌜ (1 ≤ n) × (n ≤ maxHeads) ⌝ }
     ensures { λ r. ⌜ r ≡ least (now (timeouts .entry)) n ⌝ }
 {
     let mut least = timeouts[0];
@@ -28,7 +29,7 @@ fn least(timeouts: &[u32; 64], n: u8) -> u32
 
 // The least timeout or, if hearers wait and it is earlier, the delivery tick.
 pub fn instant(timeouts: &[u32; 64], n: u8, c: Calendar) -> u32
-    requires { ⌜ (1 ≤ n) × (n ≤ 64) ⌝ }
+    requires { ⌜ (1 ≤ n) × (n ≤ maxHeads) ⌝ }
     ensures { λ r. ⌜ r ≡ instant (now (timeouts .entry)) n c ⌝ }
 {
     let first = least(timeouts, n);
@@ -43,7 +44,7 @@ pub fn instant(timeouts: &[u32; 64], n: u8, c: Calendar) -> u32
 
 // The clock after a step: only an advance moves it.
 pub fn clock_after(timeouts: &[u32; 64], n: u8, clock: u32, c: Calendar, x: Step) -> u32
-    requires { ⌜ (1 ≤ n) × (n ≤ 64) ⌝ }
+    requires { ⌜ (1 ≤ n) × (n ≤ maxHeads) ⌝ }
     ensures { λ r. ⌜ r ≡ clockAfter (now (timeouts .entry)) n clock c x ⌝ }
 {
     match x {
@@ -53,7 +54,8 @@ pub fn clock_after(timeouts: &[u32; 64], n: u8, clock: u32, c: Calendar, x: Step
     }
 }
 
-// In a state that fits, something is due exactly where the next instant is the present one, so one search serves both tests.
+// Whether an advance to the next instant is accepted. In a state that fits, something is due exactly where the next instant is the
+// present one, so one search serves both tests.
 pub fn verdict(clock: u32, next: u32) -> Verdict
     ensures { λ r. ⌜ verdictNumber r ≡ advanceRefusal clock next ⌝ }
 {

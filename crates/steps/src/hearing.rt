@@ -8,9 +8,9 @@ use words::Verdict;
 ghost use mathlib.Core.Path.{_≡_};
 ghost use Prim.Native.Nat.{_≤_};
 ghost use Rattle.words.specs.Refusal.{verdictNumber};
-ghost use Rattle.rules.specs.Limits.{longestSlot, ceiling};
+ghost use Rattle.rules.specs.Limits.{maxHeads, longestSlot, ceiling};
 ghost use Rattle.rules.specs.Step.{listenerWait, joined, hearHead};
-ghost use Rattle.steps.specs.Parts.{waits, hearRefusal};
+ghost use Rattle.steps.specs.Parts.{heeds, hearRefusal};
 ghost use Rattle.steps.specs.Ready.{Sender};
 
 // How long a listener waits that hears a coldstart frame.
@@ -54,9 +54,9 @@ pub fn hear_head(t: Table, clock: u32, i: u8, c: Calendar, h: Head) -> Head
     }
 }
 
-// Whether a head in a phase waits for a frame: any other phase stays as it is when it hears one.
-pub fn waits(p: Phase) -> bool
-    ensures { λ r. ⌜ r ≡ waits p ⌝ }
+// Whether a head in a phase heeds a frame that it hears: in any other phase it stays as it is.
+pub fn heeds(p: Phase) -> bool
+    ensures { λ r. ⌜ r ≡ heeds p ⌝ }
 {
     match p {
         Phase::Init => false,
@@ -68,7 +68,7 @@ pub fn waits(p: Phase) -> bool
 
 // Whether head i may hear.
 pub fn verdict(t: Table, clock: u32, c: Calendar, i: u8) -> Verdict
-    requires { ⌜ t .n ≤ 64 ⌝ }
+    requires { ⌜ t .n ≤ maxHeads ⌝ }
     ensures { λ r. ⌜ verdictNumber r ≡ hearRefusal t clock c i ⌝ }
 {
     if i < 1 {

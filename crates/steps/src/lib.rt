@@ -12,6 +12,7 @@ use words::Verdict;
 ghost use mathlib.Core.Path.{_≡_};
 ghost use mathlib.Core.Bool.{true};
 ghost use Prim.Native.Nat.{_≤_};
+ghost use Rattle.rules.specs.Limits.{maxHeads};
 ghost use Rattle.words.specs.Refusal.{verdictNumber};
 ghost use Rattle.rules.specs.Table.{tableFits};
 ghost use Rattle.rules.specs.State.{stateFits};
@@ -58,7 +59,7 @@ pub fn attempt(t: Table, s: State, x: Step) -> Judged
 
 // Whether a step is accepted, by the clock after it and the head that it names.
 fn verdict(t: Table, clock: u32, later: u32, c: Calendar, h: Head, x: Step) -> Verdict
-    requires { ⌜ t .n ≤ 64 ⌝ }
+    requires { ⌜ t .n ≤ maxHeads ⌝ }
     ensures { λ r. ⌜ verdictNumber r ≡ partRefusal t clock later c h x ⌝ }
 {
     match x {

@@ -3,6 +3,7 @@ use rules::Calendar;
 use rules::Table;
 ghost use mathlib.Core.Path.{_≡_};
 ghost use Prim.Native.Nat.{_≤_};
+ghost use Rattle.rules.specs.Limits.{maxHeads};
 ghost use Rattle.rules.specs.Calendar.{settled, left, taken, send};
 ghost use Rattle.rules.specs.Step.{sends};
 ghost use Rattle.steps.specs.Ready.{Sender};
@@ -19,7 +20,7 @@ fn settled(c: Calendar) -> Calendar
 
 // Head i leaves the hearers.
 pub fn left(c: Calendar, i: u8) -> Calendar
-    requires { ⌜ (1 ≤ i) × (i ≤ 64) ⌝ }
+    requires { ⌜ (1 ≤ i) × (i ≤ maxHeads) ⌝ }
     ensures { λ r. ⌜ r ≡ left c i ⌝ }
 {
     let rest = hearers::without(c.hearers, i);

@@ -31,11 +31,7 @@ pub fn timer_head(t: Table, clock: u32, i: u8, p: Phase) -> Head
             phase: Phase::Listen,
             timeout: clock + t.listen_wait(i),
         },
-        Phase::Listen => Head {
-            phase: Phase::Coldstart,
-            timeout: clock + t.coldstart_wait(i),
-        },
-        Phase::Coldstart => Head {
+        Phase::Listen | Phase::Coldstart => Head {
             phase: Phase::Coldstart,
             timeout: clock + t.coldstart_wait(i),
         },
@@ -55,8 +51,7 @@ pub fn timer_frame(t: Table, i: u8, p: Phase) -> u8
 {
     match p {
         Phase::Init => 0,
-        Phase::Listen => Calendar::COLDSTART_FRAME,
-        Phase::Coldstart => Calendar::COLDSTART_FRAME,
+        Phase::Listen | Phase::Coldstart => Calendar::COLDSTART_FRAME,
         Phase::Active(k) => {
             let next = slot_after(t, k);
             if next == i {

@@ -1,4 +1,4 @@
--- Document 01, "The head table": the table image, what reads as one, and what a writer does.
+-- Document 01, "The head table": the table image, and what reads as one.
 use mathlib.Core.List.{List, [], _∷_, _++_}
 use Prim.Native.Nat.{ℕ, _+_, _*_}
 use lib.Dec.{eqb, leb}
@@ -11,7 +11,6 @@ use Rattle.rules.specs.Limits.{maxHeads}
 use Rattle.rules.specs.Table.{wakeOf, tableRefusal}
 use Rattle.octets.specs.Bytes.{numberAt}
 use Rattle.octets.specs.Fields.{Field, bits16, bits32, lettersOf, openingFields, inBytes, joined, placeOf, places, isMarked, countIn, orBlank}
-use Rattle.rules.specs.Room.{writeRefusal}
 
 -- "mark `HTB`"
 abbrev pub tableMark : ℕ

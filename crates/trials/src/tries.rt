@@ -15,13 +15,13 @@ use rules::Written;
 use runs::Ran;
 use words::Step;
 
-// More than any image that is tried, and a place outside of it.
+// The longest image or room that is tried, and a place outside of it.
 const ROOM: usize = 300;
 
 const OUTSIDE: u64 = 300;
 
-// More than any run that is given, and a number that is no byte.
-const MOST_PAIRS: usize = 64;
+// The bytes of the longest run that is given, and a number that is no byte.
+const MOST_BYTES: usize = 64;
 
 const NO_BYTE: u64 = 256;
 
@@ -146,9 +146,9 @@ fn written(t: Table, s: State, what: u8, room: &mut [u8]) -> Written {
 
 // A run of the steps that a line gives.
 pub fn given(t: Table, s: State, line: &[u8]) {
-    let mut pairs = [0u8; MOST_PAIRS];
+    let mut pairs = [0u8; MOST_BYTES];
     let n = bytes_of(line, &mut pairs);
-    if n > MOST_PAIRS {
+    if n > MOST_BYTES {
         return;
     }
     ran(s, runs::run_given(t, s, &pairs[0..n]));

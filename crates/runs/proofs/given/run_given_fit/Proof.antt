@@ -143,8 +143,8 @@ element-copy-out-h-2 c = let b = place-below ((c .before .before .before .before
 left-requires : tie.Need-left-requires Inv-loop μ-loop
 left-requires c κs = let w = (c .before .before .before .before .before .before .before .before .before .before .before .before .before .loop) in let z = sym (same-hear _ _ ((c .before .before .before .before .before .before .before .before .before .before .before .before .before .before .before .before .pre) .0) (w .inv .3) _ _ ((c .before .before .before .before .before .before .x2) .given .1)) ∙ accepted-zero ((c .before .before .before .before .verdict3) .result) _ ((c .before .before .before .before .verdict3) .ensures) (search needs) in let r = hear-sender _ _ ((c .before .before .before .before .before .before .before .before .before .before .before .before .before .before .before .before .pre) .0) (w .inv .3) _ _ ((c .before .before .before .before .before .before .x2) .given .1) z in omega arith
 
-waits-requires : tie.Need-waits-requires Inv-loop μ-loop
-waits-requires c κs = search needs
+heeds-requires : tie.Need-heeds-requires Inv-loop μ-loop
+heeds-requires c κs = search needs
 
 hear-head-requires : tie.Need-hear-head-requires Inv-loop μ-loop
 hear-head-requires c κs = let w = (c .before .before .before .before .before .before .before .before .before .before .before .before .before .before .before .before .loop) in let z = sym (same-hear _ _ ((c .before .before .before .before .before .before .before .before .before .before .before .before .before .before .before .before .before .before .before .pre) .0) (w .inv .3) _ _ ((c .before .before .before .before .before .before .before .before .before .x2) .given .1)) ∙ accepted-zero ((c .before .before .before .before .before .before .before .verdict3) .result) _ ((c .before .before .before .before .before .before .before .verdict3) .ensures) (search needs) in hear-sender _ _ ((c .before .before .before .before .before .before .before .before .before .before .before .before .before .before .before .before .before .before .before .pre) .0) (w .inv .3) _ _ ((c .before .before .before .before .before .before .before .before .before .x2) .given .1) z
@@ -238,7 +238,7 @@ run-given-fit-spec =
     mul-h-2
     element-copy-out-h-2
     left-requires
-    waits-requires
+    heeds-requires
     hear-head-requires
     mul-moved-2
     element-set-from-moved-2

@@ -87,8 +87,8 @@ element-copy-out-h-2 c = let b = place-below ((c .before .before .x2) .given .0 
 left-requires : tie.Need-left-requires Inv-loop μ-loop
 left-requires c κs = let w = (c .before .before .before .before .before .before .before .before .before .loop) in let x = first-of _ _ (w .inv .2) _ _ ((c .before .before .before .before .before .first-due) .ensures .0) in let z = policy-due _ _ ((c .before .before .before .before .before .before .before .before .before .before .before .pre) .0) (w .inv .1) _ (w .inv .2) _ _ (clock-hear _ _ _ _ _ _ ((c .before .before .before .x2) .given .1)) x refl in let r = hear-sender _ _ ((c .before .before .before .before .before .before .before .before .before .before .before .pre) .0) (w .inv .1) _ _ ((c .before .before .before .x2) .given .1) z in omega arith
 
-waits-requires : tie.Need-waits-requires Inv-loop μ-loop
-waits-requires c κs = search needs
+heeds-requires : tie.Need-heeds-requires Inv-loop μ-loop
+heeds-requires c κs = search needs
 
 hear-head-requires : tie.Need-hear-head-requires Inv-loop μ-loop
 hear-head-requires c κs = let w = (c .before .before .before .before .before .before .before .before .before .before .before .before .loop) in let x = first-of _ _ (w .inv .2) _ _ ((c .before .before .before .before .before .before .before .before .first-due) .ensures .0) in let z = policy-due _ _ ((c .before .before .before .before .before .before .before .before .before .before .before .before .before .before .pre) .0) (w .inv .1) _ (w .inv .2) _ _ (clock-hear _ _ _ _ _ _ ((c .before .before .before .before .before .before .x2) .given .1)) x refl in hear-sender _ _ ((c .before .before .before .before .before .before .before .before .before .before .before .before .before .before .pre) .0) (w .inv .1) _ _ ((c .before .before .before .before .before .before .x2) .given .1) z
@@ -164,7 +164,7 @@ policy-from-spec =
     mul-h-2
     element-copy-out-h-2
     left-requires
-    waits-requires
+    heeds-requires
     hear-head-requires
     mul-moved-2
     element-set-from-moved-2

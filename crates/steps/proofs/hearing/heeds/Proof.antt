@@ -1,7 +1,7 @@
-use Rattle.steps.proofs.Laws.{waits-init, waits-listen, waits-coldstart, waits-active}
+use Rattle.steps.proofs.Laws.{heeds-init, heeds-listen, heeds-coldstart, heeds-active}
 use borrow.Author.Needs.{needs}
-use Rattle.steps.proofs.hearing.waits.Statement.{statement}
-use Rattle.steps.proofs.hearing.waits.Tie as tie
+use Rattle.steps.proofs.hearing.heeds.Statement.{statement}
+use Rattle.steps.proofs.hearing.heeds.Tie as tie
 
 enum-told : tie.Need-enum-told
 enum-told c = search needs
@@ -16,18 +16,18 @@ enum-told-4 : tie.Need-enum-told-4
 enum-told-4 c = search needs
 
 returns : tie.Need-returns
-returns c = waits-init _ (search needs)
+returns c = heeds-init _ (search needs)
 
 returns-2 : tie.Need-returns-2
-returns-2 c = waits-listen _ (search needs)
+returns-2 c = heeds-listen _ (search needs)
 
 returns-3 : tie.Need-returns-3
-returns-3 c = waits-coldstart _ (search needs)
+returns-3 c = heeds-coldstart _ (search needs)
 
 returns-4 : tie.Need-returns-4
-returns-4 c = waits-active _ _ ((c .enum-told4) .given .1)
+returns-4 c = heeds-active _ _ ((c .enum-told4) .given .1)
 
-pub waits-spec : {M : Type 1} → statement M
-waits-spec =
+pub heeds-spec : {M : Type 1} → statement M
+heeds-spec =
     tie.close
     (tie.spec enum-told enum-told-2 enum-told-3 enum-told-4 returns returns-2 returns-3 returns-4)
