@@ -6,7 +6,7 @@ use Prim.Native.Nat.{ℕ, zero, suc, _≤_}
 use native.Mathlib.Omega.{arith}
 use lib.ListN.{getD}
 use Rattle.words.specs.declared.Refusal.{Refusal}
-use Rattle.words.specs.declared.Refusal.the-variants.{TableLength, TableMark, TableRange, StateLength, StateMark, StateRule, NoSuchStep, SomethingDue, TimerNotDue, NotHearing, PastCeiling, ShortRoom, OwnFrame}
+use Rattle.words.specs.declared.Refusal.the-variants.{TableLength, TableMark, TableRange, StateLength, StateMark, StateRule, NoSuchStep, SomethingDue, TimerNotDue, NotHearing, PastCeiling, ShortRoom, OwnFrame, HoldRange, BeforeLastBreak, NotActive, NoFreePlace, NoSuchEntry, NoNumberLeft, BookRule}
 use Rattle.words.specs.declared.Verdict.{Verdict}
 use Rattle.words.specs.declared.Verdict.the-variants.{Accepted, Refused}
 use Rattle.words.specs.Refusal.{numberOf, verdictNumber, unless, firstOf}
@@ -15,7 +15,7 @@ use Rattle.words.specs.Refusal.{numberOf, verdictNumber, unless, firstOf
 
 -- the refusals by their numbers; a place that no number names holds any
 byNumber : ℕ → Refusal
-byNumber n = getD (OwnFrame ∷ TableLength ∷ TableMark ∷ TableRange ∷ StateLength ∷ StateMark ∷ StateRule ∷ NoSuchStep ∷ SomethingDue ∷ TimerNotDue ∷ NotHearing ∷ PastCeiling ∷ ShortRoom ∷ []) n OwnFrame
+byNumber n = getD (OwnFrame ∷ TableLength ∷ TableMark ∷ TableRange ∷ StateLength ∷ StateMark ∷ StateRule ∷ NoSuchStep ∷ SomethingDue ∷ TimerNotDue ∷ NotHearing ∷ PastCeiling ∷ ShortRoom ∷ OwnFrame ∷ OwnFrame ∷ HoldRange ∷ BeforeLastBreak ∷ NotActive ∷ NoFreePlace ∷ NoSuchEntry ∷ NoNumberLeft ∷ OwnFrame ∷ OwnFrame ∷ OwnFrame ∷ OwnFrame ∷ BookRule ∷ []) n OwnFrame
 
 found : (x : Refusal) → byNumber (numberOf x) ≡ x
 unfolding byNumber
@@ -32,6 +32,13 @@ found NotHearing = refl
 found PastCeiling = refl
 found ShortRoom = refl
 found OwnFrame = refl
+found HoldRange = refl
+found BeforeLastBreak = refl
+found NotActive = refl
+found NoFreePlace = refl
+found NoSuchEntry = refl
+found NoNumberLeft = refl
+found BookRule = refl
 
 pub number-one : (x y : Refusal) → numberOf x ≡ numberOf y → x ≡ y
 number-one x y e = sym (found x) ∙ ap byNumber e ∙ found y
@@ -51,6 +58,13 @@ number-some NotHearing = omega arith
 number-some PastCeiling = omega arith
 number-some ShortRoom = omega arith
 number-some OwnFrame = omega arith
+number-some HoldRange = omega arith
+number-some BeforeLastBreak = omega arith
+number-some NotActive = omega arith
+number-some NoFreePlace = omega arith
+number-some NoSuchEntry = omega arith
+number-some NoNumberLeft = omega arith
+number-some BookRule = omega arith
 
 -- a verdict is known by its number
 pub verdict-one : (v w : Verdict) → verdictNumber v ≡ verdictNumber w → v ≡ w
@@ -113,6 +127,16 @@ row-is a b c e = let r = first-is a _ e in let q = first-is b _ (r .1) in (r .0,
 pub is-row : {a b c : ℕ} → a ≡ 0 → b ≡ 0 → c ≡ 0 → firstOf (a ∷ b ∷ c ∷ []) ≡ 0
 unfolding firstOf
 is-row p q r = rw (p, q, r)
+
+-- a row that begins with two gives what those give, or what the rest gives
+pub row-first : (x y : ℕ) (rest : List ℕ) → (firstOf (x ∷ y ∷ []) ≡ 0 → ⊥) → firstOf (x ∷ y ∷ []) ≡ firstOf (x ∷ y ∷ rest)
+unfolding firstOf
+row-first zero zero rest n = absurd (n refl)
+row-first zero (suc y) rest n = refl
+row-first (suc x) y rest n = refl
+
+pub row-past : (x y : ℕ) (rest : List ℕ) → firstOf (x ∷ y ∷ []) ≡ 0 → firstOf rest ≡ firstOf (x ∷ y ∷ rest)
+row-past x y rest e = let r = first-is x _ e in sym (first-none x _ (r .0) ∙ first-none y _ (first-is y [] (r .1) .0))
 
 -- which of a row of three gives its number n
 pub data Gives (a b c n : ℕ) : Type 0 where

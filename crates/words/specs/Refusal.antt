@@ -1,9 +1,9 @@
--- Document 01, "Refusal numbers": the number of each refusal, and which of several is given.
+-- Document 01, "Refusal numbers", and document 02, P4: the number of each refusal, and which of several is given.
 use mathlib.Core.Bool.{Bool, cond}
 use mathlib.Core.List.{List, [], _∷_}
 use Prim.Native.Nat.{ℕ, zero, suc}
 use Rattle.words.specs.declared.Refusal.{Refusal}
-use Rattle.words.specs.declared.Refusal.the-variants.{TableLength, TableMark, TableRange, StateLength, StateMark, StateRule, NoSuchStep, SomethingDue, TimerNotDue, NotHearing, PastCeiling, ShortRoom, OwnFrame}
+use Rattle.words.specs.declared.Refusal.the-variants.{TableLength, TableMark, TableRange, StateLength, StateMark, StateRule, NoSuchStep, SomethingDue, TimerNotDue, NotHearing, PastCeiling, ShortRoom, OwnFrame, HoldRange, BeforeLastBreak, NotActive, NoFreePlace, NoSuchEntry, NoNumberLeft, BookRule}
 use Rattle.words.specs.declared.Verdict.{Verdict}
 use Rattle.words.specs.declared.Verdict.the-variants.{Accepted, Refused}
 
@@ -21,6 +21,13 @@ numberOf NotHearing = 10
 numberOf PastCeiling = 11
 numberOf ShortRoom = 12
 numberOf OwnFrame = 13
+numberOf HoldRange = 15
+numberOf BeforeLastBreak = 16
+numberOf NotActive = 17
+numberOf NoFreePlace = 18
+numberOf NoSuchEntry = 19
+numberOf NoNumberLeft = 20
+numberOf BookRule = 25
 
 -- the number of a verdict: 0 where nothing is refused
 abbrev pub verdictNumber : Verdict → ℕ

@@ -1,4 +1,4 @@
-// The words every layer speaks: a proposed step, a refusal, a verdict, each with its number in document 01. It uses nothing.
+// The words every layer speaks: a proposed step, a refusal, a verdict, each with its number in documents 01 and 02. It uses nothing.
 mod pairs;
 mod refusals;
 
@@ -9,7 +9,7 @@ pub enum Step {
     Hear(u8),
 }
 
-// Why something is refused: one case for each number of document 01.
+// Why something is refused: one case for each number of documents 01 and 02.
 pub enum Refusal {
     TableLength,
     TableMark,
@@ -24,6 +24,13 @@ pub enum Refusal {
     PastCeiling,
     ShortRoom,
     OwnFrame,
+    HoldRange,
+    BeforeLastBreak,
+    NotActive,
+    NoFreePlace,
+    NoSuchEntry,
+    NoNumberLeft,
+    BookRule,
 }
 
 pub enum Verdict {

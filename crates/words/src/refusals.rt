@@ -1,4 +1,4 @@
-// The number of a refusal, as document 01 gives it.
+// The number of a refusal, as documents 01 and 02 give it.
 use crate::Refusal;
 use crate::Verdict;
 ghost use mathlib.Core.Path.{_≡_};
@@ -22,6 +22,13 @@ impl Refusal {
             Refusal::PastCeiling => 11,
             Refusal::ShortRoom => 12,
             Refusal::OwnFrame => 13,
+            Refusal::HoldRange => 15,
+            Refusal::BeforeLastBreak => 16,
+            Refusal::NotActive => 17,
+            Refusal::NoFreePlace => 18,
+            Refusal::NoSuchEntry => 19,
+            Refusal::NoNumberLeft => 20,
+            Refusal::BookRule => 25,
         }
     }
 }

@@ -1,0 +1,5 @@
+pub mod Rows
+pub mod Rules
+pub mod Known
+pub mod Filing
+pub mod Unique
