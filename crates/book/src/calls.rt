@@ -3,12 +3,13 @@ use crate::Book;
 use crate::Booked;
 use crate::Crossing;
 use crate::Entry;
+use crate::answers::accepted;
+use crate::answers::refused;
 use crate::places::find;
 use words::Refusal;
 use words::Verdict;
 ghost use mathlib.Core.Path.{_≡_};
 ghost use Prim.Native.Nat.{_≤_};
-ghost use Rattle.words.specs.declared.Verdict.the-variants.{Accepted, Refused};
 ghost use Rattle.rules.specs.Limits.{maxHeads};
 ghost use Rattle.book.specs.Book.{lastCrossing};
 ghost use Rattle.book.specs.Calls.{Answers, isTail, oneMore, tailed, entryRefusal, entered, bookAfter, heldRefusal, releaseRefusal, released, releaseAnswer};
@@ -57,10 +58,10 @@ impl Book {
         let es = self.places;
         let p = find(es, 0);
         if p == 0 {
-            return self.refused(Refusal::NoFreePlace);
+            return refused(self, Refusal::NoFreePlace);
         }
         if self.given == Book::LAST_NUMBER {
-            return self.refused(Refusal::NoNumberLeft);
+            return refused(self, Refusal::NoNumberLeft);
         }
         let number = self.given + 1;
         let mut b = self;
@@ -76,7 +77,7 @@ impl Book {
             head: head,
             tails: 0,
         };
-        b.accepted()
+        accepted(b)
     }
 
     // Frees the place of an entry, by its number; or 15, 25 or 19.
@@ -94,16 +95,16 @@ impl Book {
     }
 
     // The same of a book that is known to fit.
-    pub fn release_fit(self, number: u32) -> Booked
+    fn release_fit(self, number: u32) -> Booked
         ensures { λ r. ⌜ Answers r (heldRefusal self number) (bookAfter self (released self number) (heldRefusal self number)) ⌝ }
     {
         if number == 0 {
-            return self.refused(Refusal::NoSuchEntry);
+            return refused(self, Refusal::NoSuchEntry);
         }
         let es = self.places;
         let p = find(es, number);
         if p == 0 {
-            return self.refused(Refusal::NoSuchEntry);
+            return refused(self, Refusal::NoSuchEntry);
         }
         let mut b = self;
         b.places[p - 1] = Entry {
@@ -112,27 +113,7 @@ impl Book {
             head: 0,
             tails: 0,
         };
-        b.accepted()
-    }
-
-    // The answer of a call that is accepted, with the book after it.
-    pub fn accepted(self) -> Booked
-        ensures { λ r. ⌜ (r .verdict ≡ Accepted) × (r .book ≡ self) ⌝ }
-    {
-        Booked {
-            verdict: Verdict::Accepted,
-            book: self,
-        }
-    }
-
-    // The answer of a call that is refused, with the book as it was given.
-    pub fn refused(self, why: Refusal) -> Booked
-        ensures { λ r. ⌜ (r .verdict ≡ Refused why) × (r .book ≡ self) ⌝ }
-    {
-        Booked {
-            verdict: Verdict::Refused(why),
-            book: self,
-        }
+        accepted(b)
     }
 }
 

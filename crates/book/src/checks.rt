@@ -3,6 +3,8 @@ use crate::Book;
 use crate::Booked;
 use crate::Crossing;
 use crate::Entry;
+use crate::answers::accepted;
+use crate::answers::refused;
 use crate::places::numbers;
 use crate::places::stands;
 use rules::State;
@@ -34,10 +36,10 @@ impl Book {
     {
         if !hold_fits(hold) {
             let none = empty(0);
-            return none.refused(Refusal::HoldRange);
+            return refused(none, Refusal::HoldRange);
         }
         let b = empty(hold);
-        b.accepted()
+        accepted(b)
     }
 
     // The hold (15), then the book rules (25).

@@ -1,6 +1,7 @@
 // A book of crossings, whatever kind of post they come from: its places and numbers, what each head's last crossing was, tails filed
 // in the entry that holds it, release. Who may enter a crossing, and when, is for a crate above (single_beam). It uses words, and of
 // rules only the tests over 1 to n and the head count.
+mod answers;
 mod calls;
 mod checks;
 mod places;

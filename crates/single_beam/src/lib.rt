@@ -40,16 +40,22 @@ pub fn break_of(t: Table, s: State, b: Book, i: u8) -> Booked
 }
 
 // The same on a table, a state and a book that are known to fit.
-pub fn break_of_fit(t: Table, s: State, b: Book, i: u8) -> Booked
+fn break_of_fit(t: Table, s: State, b: Book, i: u8) -> Booked
     requires { ⌜ (tableFits t ≡ true) × (stateFits t s ≡ true) × (bookFits b ≡ true) ⌝ }
     ensures { λ r. ⌜ Answers r (crossRefusal t s b i) (bookAfter b (crossed b i (s .clock)) (crossRefusal t s b i)) ⌝ }
 {
     let clock = s.clock;
     if clock < b.latest {
-        return b.refused(Refusal::BeforeLastBreak);
+        return Booked {
+            verdict: Verdict::Refused(Refusal::BeforeLastBreak),
+            book: b,
+        };
     }
     if !is_active(t, s, i) {
-        return b.refused(Refusal::NotActive);
+        return Booked {
+            verdict: Verdict::Refused(Refusal::NotActive),
+            book: b,
+        };
     }
     cross(b, i, clock)
 }
@@ -80,7 +86,10 @@ fn cross(b: Book, i: u8, clock: u32) -> Booked
 {
     if b.is_tail(i, clock) {
         let after = b.tailed(i, clock);
-        return after.accepted();
+        return Booked {
+            verdict: Verdict::Accepted,
+            book: after,
+        };
     }
     b.enter(i, clock, clock)
 }

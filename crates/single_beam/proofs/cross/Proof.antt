@@ -1,6 +1,6 @@
-use mathlib.Core.Path.{sym, ap, _∙_}
+use mathlib.Core.Path.{refl, sym, _∙_}
 use native.Mathlib.Omega.{arith}
-use Rattle.words.specs.Refusal.{verdictNumber}
+use Rattle.words.specs.declared.Verdict.the-variants.{Accepted}
 use Rattle.book.proofs.Rules.{remembered-past}
 use Rattle.single_beam.proofs.Laws.{crossed-tail, crossed-new}
 use borrow.Author.Needs.{needs}
@@ -13,11 +13,8 @@ is-tail-requires c κs = ((c .pre) .2, (c .pre) .3, λ n. let m = remembered-pas
 tailed-requires : tie.Need-tailed-requires
 tailed-requires c κs = search needs
 
-accepted-requires : tie.Need-accepted-requires
-accepted-requires c κs = search needs
-
 returns : tie.Need-returns
-returns c = crossed-tail _ _ _ ((c .accepted) .result) (sym ((c .before .before .before .is-tail) .ensures) ∙ (c .before .before .if1) .taken) ((c .accepted) .ensures .1 ∙ (c .before .tailed) .ensures) (ap verdictNumber ((c .accepted) .ensures .0))
+returns c = crossed-tail _ _ _ (record { verdict = Accepted; book = (c .tailed) .result }) (sym ((c .before .before .is-tail) .ensures) ∙ (c .before .if1) .taken) ((c .tailed) .ensures) refl
 
 enter-requires : tie.Need-enter-requires
 enter-requires c κs = search needs
@@ -26,6 +23,4 @@ returns-2 : tie.Need-returns-2
 returns-2 c = crossed-new _ _ _ ((c .enter) .result) (sym ((c .before .before .is-tail) .ensures) ∙ (c .before .if1) .left) ((c .enter) .ensures)
 
 pub cross-spec : {M : Type 1} → statement M
-cross-spec =
-    tie.close
-    (tie.spec is-tail-requires tailed-requires accepted-requires returns enter-requires returns-2)
+cross-spec = tie.close (tie.spec is-tail-requires tailed-requires returns enter-requires returns-2)
