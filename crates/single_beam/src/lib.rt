@@ -13,7 +13,7 @@ ghost use mathlib.Core.Bool.{true, _&&_};
 ghost use Prim.Native.Nat.{_≤_};
 ghost use Rattle.rules.specs.Limits.{maxHeads};
 ghost use Rattle.rules.specs.Table.{isHead, tableFits};
-ghost use Rattle.rules.specs.State.{phaseOf, stateFits};
+ghost use Rattle.rules.specs.State.{phaseOf};
 ghost use Rattle.book.specs.Book.{bookFits};
 ghost use Rattle.book.specs.Calls.{Answers, bookAfter};
 ghost use Rattle.single_beam.specs.Break.{active, newRefusal, crossRefusal, crossed, breakRefusal, breakAnswer};
@@ -39,9 +39,9 @@ pub fn break_of(t: Table, s: State, b: Book, i: u8) -> Booked
     break_of_fit(t, s, b, i)
 }
 
-// The same on a table, a state and a book that are known to fit.
+// The same where table, state and book are known to fit.
 fn break_of_fit(t: Table, s: State, b: Book, i: u8) -> Booked
-    requires { ⌜ (tableFits t ≡ true) × (stateFits t s ≡ true) × (bookFits b ≡ true) ⌝ }
+    requires { ⌜ (tableFits t ≡ true) × (bookFits b ≡ true) ⌝ }
     ensures { λ r. ⌜ Answers r (crossRefusal t s b i) (bookAfter b (crossed b i (s .clock)) (crossRefusal t s b i)) ⌝ }
 {
     let clock = s.clock;

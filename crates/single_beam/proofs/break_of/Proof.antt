@@ -32,7 +32,7 @@ returns-2 : tie.Need-returns-2
 returns-2 c = unfit-book _ _ _ _ (accepted-zero ((c .before .before .before .before .before .check) .result) _ ((c .before .before .before .before .before .check) .ensures) (search needs)) (record { verdict = (c .before .before .check2) .result; book = (c .before .before .before .before .before .before .args) .b }) (refused-some ((c .before .before .check2) .result) _ _ ((c .before .before .check2) .ensures) ((c .enum-told4) .given .1)) ((c .before .before .check2) .ensures) refl
 
 break-of-fit-requires : tie.Need-break-of-fit-requires
-break-of-fit-requires c κs = let r = accepted-record _ _ (accepted-zero ((c .before .before .before .before .before .check) .result) _ ((c .before .before .before .before .before .check) .ensures) (search needs)) in (r .0, r .1, accepted-book _ (accepted-zero ((c .before .before .check2) .result) _ ((c .before .before .check2) .ensures) (search needs)) .1)
+break-of-fit-requires c κs = let r = accepted-record _ _ (accepted-zero ((c .before .before .before .before .before .check) .result) _ ((c .before .before .before .before .before .check) .ensures) (search needs)) in (r .0, accepted-book _ (accepted-zero ((c .before .before .check2) .result) _ ((c .before .before .check2) .ensures) (search needs)) .1)
 
 returns-3 : tie.Need-returns-3
 returns-3 c = all-fit _ _ _ _ (accepted-zero ((c .before .before .before .before .before .before .check) .result) _ ((c .before .before .before .before .before .before .check) .ensures) (search needs)) ((c .break-of-fit) .result) (accepted-zero ((c .before .before .before .check2) .result) _ ((c .before .before .before .check2) .ensures) (search needs)) ((c .break-of-fit) .ensures)

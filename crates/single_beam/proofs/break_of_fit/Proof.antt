@@ -18,7 +18,7 @@ returns-2 : tie.Need-returns-2
 returns-2 c = refused-answer (record { verdict = Refused NotActive; book = (c .before .before .before .before .args) .b }) _ _ _ _ (refl, refl) (not-active _ _ _ _ ((c .before .before .if1) .left) (flag-no _ _ ((c .before .is-active) .ensures) ((c .if2) .taken)))
 
 cross-requires : tie.Need-cross-requires
-cross-requires c κs = let h = active-head _ ((c .before .before .before .before .args) .s) _ ((c .before .before .before .before .pre) .0) (flag-yes _ _ ((c .before .is-active) .ensures) ((c .if2) .left)) in ((c .before .before .before .before .pre) .2, (c .before .before .if1) .left, h .0, h .1)
+cross-requires c κs = let h = active-head _ ((c .before .before .before .before .args) .s) _ ((c .before .before .before .before .pre) .0) (flag-yes _ _ ((c .before .is-active) .ensures) ((c .if2) .left)) in ((c .before .before .before .before .pre) .1, (c .before .before .if1) .left, h .0, h .1)
 
 returns-3 : tie.Need-returns-3
 returns-3 c = judged-cross _ _ _ _ ((c .cross) .result) (may-cross _ _ _ _ ((c .before .before .before .if1) .left) (flag-yes _ _ ((c .before .before .is-active) .ensures) ((c .before .if2) .left))) ((c .cross) .ensures)
