@@ -1,13 +1,13 @@
 -- Laws of rows of places: what is put stands there and nothing else moves; which place is the lowest.
-use mathlib.Core.Path.{_≡_, refl, sym}
+use mathlib.Core.Path.{_≡_, refl, sym, ap, _∙_}
 use mathlib.Core.Bool.{Bool, true, false, cond}
-use mathlib.Core.Logic.{inl, inr}
+use mathlib.Core.Logic.{_⊎_, inl, inr}
 use mathlib.Core.List.{List}
 use Prim.Native.Nat.{ℕ, zero, suc, _+_, _-_, _≤_, _<_}
 use native.Mathlib.Numerals.{add-one}
 use native.Mathlib.Omega.{arith}
 use lib.Dec.{eqb}
-use lib.ListN.{length, getD, set, length-set}
+use lib.ListN.{length, getD, set, replicate, length-set, length-replicate, getD-replicate, List·getD-eq-default}
 use lib.Seq.{getD-set-same, getD-set-other}
 use borrow.Author.Tests.{eq-eqb, ne-eqb}
 use Rattle.rules.proofs.Each.{same?, less?, either?, not-both}
@@ -111,4 +111,42 @@ pub lowest-none : (n : ℕ) (f : ℕ → Bool) → ((q : ℕ) → 1 ≤ q → q 
 lowest-none n f l = let m = lowest-is n f in elim (same? (lowest n f) 0) [
   | inl z ↦ sym z
   | inr z ↦ not-both (f (lowest n f)) (m .passes (omega arith)) (l (lowest n f) (omega arith) (m .high))
+]
+
+-- ---- places beyond the row, rows of one thing, and what a put leaves alike
+
+pub at-beyond : {A : Type 0} (none : A) (xs : List A) (p : ℕ) → length xs < p → at none xs p ≡ none
+unfolding at
+at-beyond none xs zero l = refl
+at-beyond none xs (suc k) l = List·getD-eq-default xs none (omega arith)
+
+pub at-replicate : {A : Type 0} (n : ℕ) (x : A) (p : ℕ) → at x (replicate n x) p ≡ x
+unfolding at
+at-replicate n x zero = refl
+at-replicate n x (suc k) = elim (less? k n) [
+  | inl l ↦ getD-replicate n k x x l
+  | inr l ↦ List·getD-eq-default (replicate n x) x (omega (arith, length-replicate n x))
+]
+
+-- whether or not there is such a place, a put leaves a place as it was or is what stands there
+pub put-either :
+    {A : Type 0} (none : A) (xs : List A) (p q : ℕ) (x : A) →
+    (at none (put xs p x) q ≡ at none xs q) ⊎ ((q ≡ p) × (at none (put xs p x) q ≡ x))
+put-either none xs p q x = elim (same? q p) [
+  | inr n ↦ inl (at-put-other none xs p q x n)
+  | inl s ↦ elim (same? p 0) [
+    | inl z ↦ inl (ap (λ row. at none row q) (put-nowhere xs p x z))
+    | inr z ↦ elim (less? (length xs) p) [
+      | inl l ↦ inl (at-beyond none (put xs p x) q (omega (arith, length-put xs p x)) ∙ sym (at-beyond none xs q (omega arith)))
+      | inr l ↦ inr (s, rw s (at-put-same none xs p x (omega arith) l))
+    ]
+  ]
+]
+
+-- so where f cannot tell what is put from what stood there, it tells no place from what it was
+pub put-keeps :
+    {A B : Type 0} (f : A → B) (none : A) (xs : List A) (p q : ℕ) (x : A) → f x ≡ f (at none xs p) → f (at none (put xs p x) q) ≡ f (at none xs q)
+put-keeps f none xs p q x e = elim (put-either none xs p q x) [
+  | inl k ↦ ap f k
+  | inr k ↦ ap f (k .1) ∙ e ∙ ap (λ r. f (at none xs r)) (sym (k .0))
 ]

@@ -1,0 +1,7 @@
+pub mod Places
+pub mod Meaning
+pub mod Calls
+pub mod Keeps
+pub mod Stays
+pub mod Numbers
+pub mod Own
