@@ -120,3 +120,17 @@ pub fn place(line: &[u8]) -> usize
     }
     (i - 1) as usize
 }
+
+// The place of a book that a line names first, counted from 0; the last one where there is no such place.
+pub fn book_place(line: &[u8]) -> usize
+    ensures { λ r. ⌜ r < 256 ⌝ }
+{
+    let p = number16(line, 0);
+    if p > 255 {
+        return 255;
+    }
+    if p < 1 {
+        return 255;
+    }
+    (p - 1) as usize
+}

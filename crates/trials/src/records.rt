@@ -58,7 +58,7 @@ pub fn table(line: &[u8]) -> Table {
 }
 
 // The table with one wake set, by a line: head, wake.
-pub fn but_wake(t: Table, line: &[u8]) -> Table {
+pub fn alter_wake(t: Table, line: &[u8]) -> Table {
     let k = place(line);
     let mut u = t;
     u.wakes[k] = number32(line, 1);

@@ -5,16 +5,19 @@ use Rattle.trials.proofs.sheet.Statement.{statement}
 use Rattle.trials.proofs.sheet.Tie as tie
 
 abbrev Inv-loop : tie.InvT-loop
-Inv-loop input t₀ s₀ at₀ t s at = at ≤ length input + 1
+Inv-loop input t₀ s₀ b₀ at₀ t s b at = at ≤ length input + 1
 
 abbrev μ-loop : tie.MeasureT-loop
-μ-loop input t₀ s₀ at₀ t s at = (length input + 1) - at
+μ-loop input t₀ s₀ b₀ at₀ t s b at = (length input + 1) - at
 
 no-table-requires : tie.Need-no-table-requires Inv-loop μ-loop
 no-table-requires c κs = search needs
 
 blank-requires : tie.Need-blank-requires Inv-loop μ-loop
 blank-requires c κs = search needs
+
+blank-requires-2 : tie.Need-blank-requires-2 Inv-loop μ-loop
+blank-requires-2 c κs = search needs
 
 loop-holds : tie.Need-loop-holds Inv-loop μ-loop
 loop-holds c = search needs
@@ -31,6 +34,9 @@ part-line-start c = search needs
 part-line-end : tie.Need-part-line-end Inv-loop μ-loop
 part-line-end c = search needs
 
+add-at : tie.Need-add-at Inv-loop μ-loop
+add-at c = search needs
+
 table-then-requires : tie.Need-table-then-requires Inv-loop μ-loop
 table-then-requires c κs = search needs
 
@@ -39,9 +45,6 @@ state-then-requires c κs = search needs
 
 tell-requires : tie.Need-tell-requires Inv-loop μ-loop
 tell-requires c κs = search needs
-
-add-at : tie.Need-add-at Inv-loop μ-loop
-add-at c = search needs
 
 loop-less : tie.Need-loop-less Inv-loop μ-loop
 loop-less c = search needs
@@ -60,15 +63,16 @@ sheet-spec =
     μ-loop
     no-table-requires
     blank-requires
+    blank-requires-2
     loop-holds
     line-end-requires
     sub-line
     part-line-start
     part-line-end
+    add-at
     table-then-requires
     state-then-requires
     tell-requires
-    add-at
     loop-less
     loop-again
     returns)
