@@ -8,6 +8,7 @@ use lib.Dec.{eqb, ltb}
 use Rattle.words.specs.declared.Refusal.the-variants.{NoFreePlace, NoSuchEntry, NoNumberLeft}
 use Rattle.words.specs.Refusal.{verdictNumber, unless, firstOf}
 use Rattle.book.specs.declared.Entry.{Entry}
+use Rattle.book.specs.declared.Crossing.{Crossing}
 use Rattle.book.specs.declared.Book.{Book}
 use Rattle.book.specs.declared.Booked.{Booked}
 use Rattle.book.specs.Limits.{mostTails, lastNumber}
@@ -63,14 +64,21 @@ numberRefusal b = unless (ltb (b .given) lastNumber) NoNumberLeft
 unfoldable pub entryRefusal : Book → ℕ
 entryRefusal b = firstOf (placeRefusal b ∷ numberRefusal b ∷ [])
 
--- "it takes the lowest free place, with a number that rises from 1": head i's crossing at a tick, which the head remembers as its last
+-- the crossing of head i at a tick under the next number, "a number that rises from 1": as its place holds it, and as the head remembers it
+abbrev pub newEntry : Book → ℕ → ℕ → Entry
+newEntry b i tick = record { number = suc (b .given); tick = tick; head = i; tails = 0 }
+
+abbrev pub newCrossing : Book → ℕ → Crossing
+newCrossing b tick = record { number = suc (b .given); tick = tick }
+
+-- "it takes the lowest free place": the book with that crossing, and with the clock for its last break
 unfoldable pub entered : Book → ℕ → ℕ → ℕ → Book
 entered b i tick clock = record {
   hold = b .hold;
   given = suc (b .given);
   latest = clock;
-  remembered = put (b .remembered) i (record { number = suc (b .given); tick = tick });
-  places = put (b .places) (placeOf (b .places) 0) (record { number = suc (b .given); tick = tick; head = i; tails = 0 });
+  remembered = put (b .remembered) i (newCrossing b tick);
+  places = put (b .places) (placeOf (b .places) 0) (newEntry b i tick);
 }
 
 -- ---- "Releasing an entry by number frees its place for use again; the head's last crossing is still remembered."

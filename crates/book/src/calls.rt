@@ -94,26 +94,32 @@ impl Book {
         self.release_fit(number)
     }
 
-    // The same of a book that is known to fit.
+    // The same of a book that is known to fit. Its last number stays the last, whatever is released: no number is given again.
     fn release_fit(self, number: u32) -> Booked
         ensures { λ r. ⌜ Answers r (heldRefusal self number) (bookAfter self (released self number) (heldRefusal self number)) ⌝ }
     {
         if number == 0 {
             return refused(self, Refusal::NoSuchEntry);
         }
-        let es = self.places;
+        let mut es = self.places;
         let p = find(es, number);
         if p == 0 {
             return refused(self, Refusal::NoSuchEntry);
         }
-        let mut b = self;
-        b.places[p - 1] = Entry {
+        es[p - 1] = Entry {
             number: 0,
             tick: 0,
             head: 0,
             tails: 0,
         };
-        accepted(b)
+        let last = self.remembered;
+        accepted(Book {
+            hold: self.hold,
+            given: self.given,
+            latest: self.latest,
+            remembered: last,
+            places: es,
+        })
     }
 }
 

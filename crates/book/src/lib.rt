@@ -1,14 +1,16 @@
-// A book of crossings, whatever kind of post they come from: its places and numbers, what each head's last crossing was, tails filed
-// in the entry that holds it, release. Who may enter a crossing, and when, is for a crate above (single_beam). It uses words, and of
-// rules only the tests over 1 to n and the head count.
+// A book of crossings, whatever kind of post they come from: its places and numbers, what each head's last crossing was, which breaks
+// it admits, tails filed in the entry that holds the crossing, release. What makes a crossing is for the crate of a post (single_beam).
+// It uses words and rules.
 mod answers;
+mod breaks;
 mod calls;
 mod checks;
 mod places;
 
 use words::Verdict;
 
-// A held crossing: its number, its tick, whose it is, and how many tails were filed in it. A free place is all zero.
+// A held crossing: its number, its tick, whose it is (a head, or what a post goes by), and how many tails were filed in it. A free place
+// is all zero.
 pub struct Entry {
     pub number: u32,
     pub tick: u32,

@@ -15,10 +15,10 @@ use Rattle.book.specs.declared.Book.{Book}
 use Rattle.book.specs.Limits.{lastNumber}
 use Rattle.book.specs.Rows.{at}
 use Rattle.book.specs.Book.{noEntry, noCrossing, entryAt, numberIn, lastCrossing, placeOf}
-use Rattle.book.specs.Calls.{isTail, oneMore, moreTails, tailed, placeRefusal, numberRefusal, entryRefusal, entered, heldRefusal, released}
+use Rattle.book.specs.Calls.{newEntry, isTail, oneMore, moreTails, tailed, placeRefusal, numberRefusal, entryRefusal, entered, heldRefusal, released}
 use Rattle.book.proofs.Rows.{at-put-same, at-put-other}
 use Rattle.kept.specs.Conditions.{IsPlace, Held, BookMeets}
-use Rattle.kept.specs.Claims.{TailExactly, OneMore, LastPlace, TailCounted, LowestFree, newEntry, EnteredAt, TakesLowest}
+use Rattle.kept.specs.Claims.{TailExactly, OneMore, LastPlace, TailCounted, LowestFree, EnteredAt, TakesLowest}
 use Rattle.kept.specs.Claims.{AllHeld, FullExactly, SpentExactly, FreedAt, FreesOne, AbsentExactly}
 use Rattle.kept.proofs.Places.{place-number, place-place, place-below, place-nowhere, place-somewhere, number-within, held-same}
 use Rattle.kept.proofs.Places.{counted-other, counted-nowhere, counted-place}

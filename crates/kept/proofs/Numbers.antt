@@ -6,11 +6,11 @@ use Prim.Native.Nat.{ℕ, suc, _≤_, _<_}
 use native.Mathlib.Omega.{arith}
 use Rattle.book.specs.declared.Book.{Book}
 use Rattle.book.specs.Book.{noEntry, entryAt, numberIn, numberAt, lastCrossing, placeOf}
-use Rattle.book.specs.Calls.{tailed, entered, released}
+use Rattle.book.specs.Calls.{newEntry, tailed, entered, released}
 use Rattle.book.proofs.Rows.{put-either}
 use Rattle.kept.specs.Conditions.{Held, BookMeets}
 use Rattle.kept.specs.Change.{Effect, Change, refused, a-tail, an-entry, a-release, Row, no-more, first, givenIn}
-use Rattle.kept.specs.Claims.{newEntry, FreedAt, Absent, RisesFrom, rises-none, rises-next, NumbersRise, EachOnce, once-none, once-first}
+use Rattle.kept.specs.Claims.{FreedAt, Absent, RisesFrom, rises-none, rises-next, NumbersRise, EachOnce, once-none, once-first}
 use Rattle.kept.specs.Claims.{NeverTwice, NeverAgain, ReleasedGone}
 use Rattle.kept.proofs.Places.{held-same, counted-same}
 use Rattle.kept.proofs.Calls.{frees-one, freed-other}

@@ -8,10 +8,10 @@ use Rattle.rules.proofs.Each.{same?}
 use Rattle.book.specs.declared.Book.{Book}
 use Rattle.book.specs.Rows.{at}
 use Rattle.book.specs.Book.{noCrossing, entryAt, numberIn, lastCrossing}
-use Rattle.book.specs.Calls.{tailed}
+use Rattle.book.specs.Calls.{newCrossing, tailed}
 use Rattle.kept.specs.Conditions.{AnyHead, BookMeets}
 use Rattle.kept.specs.Change.{Effect, Change, refused, a-tail, an-entry, a-release, Row, no-more, first}
-use Rattle.kept.specs.Claims.{LastPlace, newCrossing, EnteredAt, FreedAt, Own, EmptyOwn, OwnEntries, OwnTails}
+use Rattle.kept.specs.Claims.{LastPlace, EnteredAt, FreedAt, Own, EmptyOwn, OwnEntries, OwnTails}
 use Rattle.kept.proofs.Places.{tickIn, headIn, lastNumberIn, lastTickIn, held-same, counted-same}
 use Rattle.kept.proofs.Calls.{tail-either, takes-lowest, NewOrOld, new, old, new-or-old, frees-one, freed-other}
 use Rattle.kept.proofs.Keeps.{empty-held, keeps-change}

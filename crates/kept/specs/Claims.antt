@@ -7,11 +7,10 @@ use Prim.Native.Nat.{ℕ, suc, _+_, _≤_, _<_}
 use Rattle.words.specs.declared.Refusal.the-variants.{NoFreePlace, NoSuchEntry, NoNumberLeft}
 use Rattle.words.specs.Refusal.{numberOf}
 use Rattle.book.specs.declared.Entry.{Entry}
-use Rattle.book.specs.declared.Crossing.{Crossing}
 use Rattle.book.specs.declared.Book.{Book}
 use Rattle.book.specs.Limits.{mostTails, lastNumber}
 use Rattle.book.specs.Book.{noEntry, entryAt, numberAt, lastCrossing, emptyBook, bookFits}
-use Rattle.book.specs.Calls.{isTail, tailed, entryRefusal, entered, heldRefusal, released}
+use Rattle.book.specs.Calls.{isTail, tailed, entryRefusal, newEntry, newCrossing, entered, heldRefusal, released}
 use Rattle.kept.specs.Conditions.{IsPlace, AnyHead, Held, BookMeets}
 use Rattle.kept.specs.Change.{Effect, frees, Row, givenIn}
 
@@ -85,13 +84,6 @@ pub record LowestFree (b : Book) (p : ℕ) : Type 0 where
   pub place : IsPlace p
   pub free : numberAt (b .places) p ≡ 0
   pub below : (q : ℕ) → 1 ≤ q → q < p → Held b q
-
--- the crossing of a head at a tick under the next number, as its place holds it and as the head remembers it
-abbrev pub newEntry : Book → ℕ → ℕ → Entry
-newEntry b i tick = record { number = suc (b .given); tick = tick; head = i; tails = 0 }
-
-abbrev pub newCrossing : Book → ℕ → Crossing
-newCrossing b tick = record { number = suc (b .given); tick = tick }
 
 -- the book c with it entered in place p of b at a clock: nothing else moves
 pub record EnteredAt (b c : Book) (i tick clock p : ℕ) : Type 0 where

@@ -17,7 +17,8 @@ use Rattle.rules.proofs.Meaning.{head-is, table-meets}
 use Rattle.book.specs.declared.Book.{Book}
 use Rattle.book.specs.Book.{lastCrossing, bookFits, rulesRefusal}
 use Rattle.book.specs.Calls.{isTail, tailed, entryRefusal, entered, bookAfter, releaseRefusal, released, releaseAnswer}
-use Rattle.single_beam.specs.Break.{clockRefusal, headRefusal, newRefusal, crossRefusal, breakRefusal, crossed, breakAnswer}
+use Rattle.book.specs.Breaks.{clockRefusal, headRefusal}
+use Rattle.single_beam.specs.Break.{newRefusal, crossRefusal, breakRefusal, crossed, breakAnswer}
 use Rattle.kept.specs.Conditions.{AnyHead}
 use Rattle.kept.specs.Change.{Effect, none, gives, frees, Change, refused, a-tail, an-entry, a-release, no-more, first, givenIn}
 use Rattle.kept.specs.Claims.{Young}

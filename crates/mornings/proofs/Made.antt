@@ -17,7 +17,8 @@ use Rattle.book.specs.declared.Book.{Book}
 use Rattle.book.specs.Limits.{longestHold}
 use Rattle.book.specs.Book.{emptyBook, bookFits, holdRefusal, rulesRefusal}
 use Rattle.book.specs.Calls.{isTail, placeRefusal, numberRefusal, entryRefusal, heldRefusal, releaseRefusal}
-use Rattle.single_beam.specs.Break.{clockRefusal, headRefusal, newRefusal, crossRefusal, breakRefusal}
+use Rattle.book.specs.Breaks.{clockRefusal, headRefusal}
+use Rattle.single_beam.specs.Break.{newRefusal, crossRefusal, breakRefusal}
 use Rattle.kept.specs.Change.{Row, no-more, first}
 use Rattle.kept.specs.Claims.{Own}
 use Rattle.kept.proofs.Meaning.{meets-exactly}

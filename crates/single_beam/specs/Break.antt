@@ -1,33 +1,16 @@
 -- Document 02, P4: a break on a single-beam post. "A break is a head and the clock of the state offered with it."
-use mathlib.Core.Bool.{Bool, true, false, cond, _&&_}
+use mathlib.Core.Bool.{cond}
 use mathlib.Core.List.{[], _∷_}
 use Prim.Native.Nat.{ℕ}
-use lib.Dec.{leb}
-use Rattle.words.specs.declared.Refusal.the-variants.{BeforeLastBreak, NotActive}
-use Rattle.words.specs.Refusal.{unless, firstOf}
-use Rattle.rules.specs.declared.Phase.{Phase}
-use Rattle.rules.specs.declared.Phase.the-variants.{Init, Listen, Coldstart, Active}
+use Rattle.words.specs.Refusal.{firstOf}
 use Rattle.rules.specs.declared.State.{State}
 use Rattle.rules.specs.declared.Table.{Table}
-use Rattle.rules.specs.Table.{isHead, tableRefusal}
-use Rattle.rules.specs.State.{phaseOf, stateRefusal}
+use Rattle.rules.specs.Table.{tableRefusal}
+use Rattle.rules.specs.State.{stateRefusal}
 use Rattle.book.specs.declared.Book.{Book}
 use Rattle.book.specs.Book.{holdRefusal, rulesRefusal}
+use Rattle.book.specs.Breaks.{clockRefusal, headRefusal}
 use Rattle.book.specs.Calls.{isTail, tailed, entryRefusal, entered, bookAfter}
-
-unfoldable pub active : Phase → Bool
-active Init = false
-active Listen = false
-active Coldstart = false
-active (Active k) = true
-
--- "16: clock below that of the last break accepted"
-unfoldable pub clockRefusal : Book → ℕ → ℕ
-clockRefusal b clock = unless (leb (b .latest) clock) BeforeLastBreak
-
--- "17: head not 1 to N or not active"
-unfoldable pub headRefusal : Table → State → ℕ → ℕ
-headRefusal t s i = unless (isHead t i && active (phaseOf s i)) NotActive
 
 -- "18, 20: only where a new entry is needed"
 unfoldable pub newRefusal : Book → ℕ → ℕ → ℕ

@@ -3,20 +3,17 @@
 // rules for the state check, and book for all that does not depend on the kind of post.
 use book::Book;
 use book::Booked;
-use rules::Phase;
 use rules::State;
 use rules::Table;
-use words::Refusal;
 use words::Verdict;
 ghost use mathlib.Core.Path.{_≡_};
-ghost use mathlib.Core.Bool.{true, _&&_};
+ghost use mathlib.Core.Bool.{true};
 ghost use Prim.Native.Nat.{_≤_};
 ghost use Rattle.rules.specs.Limits.{maxHeads};
-ghost use Rattle.rules.specs.Table.{isHead, tableFits};
-ghost use Rattle.rules.specs.State.{phaseOf};
+ghost use Rattle.rules.specs.Table.{tableFits};
 ghost use Rattle.book.specs.Book.{bookFits};
 ghost use Rattle.book.specs.Calls.{Answers, bookAfter};
-ghost use Rattle.single_beam.specs.Break.{active, newRefusal, crossRefusal, crossed, breakRefusal, breakAnswer};
+ghost use Rattle.single_beam.specs.Break.{newRefusal, crossRefusal, crossed, breakRefusal, breakAnswer};
 
 // A break of head i at the state's clock, in any book: a tail of the head's last crossing, or a new entry.
 pub fn break_of(t: Table, s: State, b: Book, i: u8) -> Booked
@@ -44,42 +41,17 @@ fn break_of_fit(t: Table, s: State, b: Book, i: u8) -> Booked
     requires { ⌜ (tableFits t ≡ true) × (bookFits b ≡ true) ⌝ }
     ensures { λ r. ⌜ Answers r (crossRefusal t s b i) (bookAfter b (crossed b i (s .clock)) (crossRefusal t s b i)) ⌝ }
 {
-    let clock = s.clock;
-    if clock < b.latest {
+    let v = b.admits(t, s, i);
+    let Verdict::Accepted = v else {
         return Booked {
-            verdict: Verdict::Refused(Refusal::BeforeLastBreak),
+            verdict: v,
             book: b,
         };
-    }
-    if !is_active(t, s, i) {
-        return Booked {
-            verdict: Verdict::Refused(Refusal::NotActive),
-            book: b,
-        };
-    }
-    cross(b, i, clock)
+    };
+    cross(b, i, s.clock)
 }
 
-// Whether i is a head, and active.
-fn is_active(t: Table, s: State, i: u8) -> bool
-    requires { ⌜ t .n ≤ maxHeads ⌝ }
-    ensures { λ r. ⌜ r ≡ (isHead t i && active (phaseOf s i)) ⌝ }
-{
-    if i < 1 {
-        return false;
-    }
-    if t.n < i {
-        return false;
-    }
-    let h = s.heads[i as usize - 1];
-    let p = h.phase;
-    match p {
-        Phase::Active(_) => true,
-        _ => false,
-    }
-}
-
-// A break of a head that is active, not before the last break.
+// A break that the book admits.
 fn cross(b: Book, i: u8, clock: u32) -> Booked
     requires { ⌜ (bookFits b ≡ true) × (b .latest ≤ clock) × (1 ≤ i) × (i ≤ maxHeads) ⌝ }
     ensures { λ r. ⌜ Answers r (newRefusal b i clock) (bookAfter b (crossed b i clock) (newRefusal b i clock)) ⌝ }

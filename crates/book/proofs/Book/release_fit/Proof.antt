@@ -19,20 +19,20 @@ refused-requires-2 c κs = search needs
 returns-2 : tie.Need-returns-2
 returns-2 c = refused-answer _ _ _ _ _ ((c .refused2) .ensures) (not-held _ _ _ ((c .before .before .find) .ensures .0) ((c .before .before .before .before .if1) .left) ((c .before .if2) .taken))
 
-sub-t10 : tie.Need-sub-t10
-sub-t10 c = search needs
+sub-es : tie.Need-sub-es
+sub-es c = search needs
 
-mul-t11 : tie.Need-mul-t11
-mul-t11 c = search needs
+mul-es : tie.Need-mul-es
+mul-es c = search needs
 
-element-set-from-b : tie.Need-element-set-from-b
-element-set-from-b c = search needs
+array-set-from-es : tie.Need-array-set-from-es
+array-set-from-es c = search needs
 
 accepted-requires : tie.Need-accepted-requires
 accepted-requires c κs = search needs
 
 returns-3 : tie.Need-returns-3
-returns-3 c = accepted-answer _ _ _ _ ((c .accepted) .ensures .0, (c .accepted) .ensures .1 ∙ released-there _ _ _ ((c .before .before .find) .ensures .0) ((c .before .before .before .before .if1) .left) ((c .before .if2) .left)) (is-held _ _ _ ((c .before .before .find) .ensures .0) ((c .before .before .before .before .if1) .left) ((c .before .if2) .left))
+returns-3 c = accepted-answer _ _ _ _ ((c .accepted) .ensures .0, (c .accepted) .ensures .1 ∙ released-there _ _ _ ((c .before .before .before .find) .ensures .0) ((c .before .before .before .before .before .if1) .left) ((c .before .before .if2) .left)) (is-held _ _ _ ((c .before .before .before .find) .ensures .0) ((c .before .before .before .before .before .if1) .left) ((c .before .before .if2) .left))
 
 pub release-fit-spec : {M : Type 1} → statement M
 release-fit-spec =
@@ -43,8 +43,8 @@ release-fit-spec =
     find-requires
     refused-requires-2
     returns-2
-    sub-t10
-    mul-t11
-    element-set-from-b
+    sub-es
+    mul-es
+    array-set-from-es
     accepted-requires
     returns-3)

@@ -1,7 +1,7 @@
-use Rattle.single_beam.proofs.Laws.{below-heads, above-heads, head-active, head-idle}
+use Rattle.book.proofs.Admits.{below-heads, above-heads, head-active, head-idle}
 use borrow.Author.Needs.{needs}
-use Rattle.single_beam.proofs.is_active.Statement.{statement}
-use Rattle.single_beam.proofs.is_active.Tie as tie
+use Rattle.book.proofs.breaks.is_active.Statement.{statement}
+use Rattle.book.proofs.breaks.is_active.Tie as tie
 
 returns : tie.Need-returns
 returns c = below-heads _ ((c .before .args) .t2) _ ((c .if1) .taken)
