@@ -1,5 +1,5 @@
-// What the lines of the sheet try of a crossing book. Behind book the second word's first letter says what of. Each function tells what
-// came and answers the book that the lines below start from.
+// What the lines of the sheet try of a crossing book. Behind book the second word's first letter says what is tried. Each function tells
+// what came and answers the book that the lines below start from.
 use crate::letters::book_place;
 use crate::letters::letter;
 use crate::letters::number;
@@ -17,7 +17,7 @@ use rules::State;
 use rules::Table;
 use words::Verdict;
 
-// The all-zero book.
+// The all-zero book, written out here: the sheet judges what Book::new answers and takes nothing from it.
 pub fn blank() -> Book {
     Book {
         hold: 0,
@@ -94,7 +94,7 @@ fn break_at(t: Table, s: State, b: Book, line: &[u8], clock: u32) -> Booked {
     single_beam::break_of(t, u, b, number8(line, 0))
 }
 
-// The book with what a line sets, or just as it is, and what its check says of it.
+// The book with what a line writes over, or as it is where the line only looks, and what its check says of it.
 fn forged(b: Book, line: &[u8]) -> Book {
     let f = forge(b, line);
     answer(f.check());

@@ -73,7 +73,7 @@ fn tell(t: Table, s: State, b: Book, line: &[u8]) -> Book {
     after
 }
 
-// What came of a table or a state.
+// What came of a line about tables, states, steps, images or runs.
 fn tried(t: Table, s: State, line: &[u8]) {
     match letter(line, 0) {
         b't' | b'a' => print::answer(t.check()),

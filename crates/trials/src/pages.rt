@@ -85,7 +85,8 @@ fn held(places: [Entry; 256]) -> usize {
     n
 }
 
-// The place, counted from 0, that holds a number, or 256. Number 0 stands in every free place, and none of them holds it.
+// The place, counted from 0, that holds a number, or 256; the sheet looks for itself. Number 0 stands in every free place, and none of
+// them holds it.
 fn holder(places: [Entry; 256], number: u32) -> usize {
     if number == 0 {
         return Book::PLACES;

@@ -9,7 +9,7 @@ pub enum Step {
     Hear(u8),
 }
 
-// Why something is refused: one case for each number of documents 01 and 02.
+// Why something is refused: one case for each number of document 01 and of the requests of 02 that have landed.
 pub enum Refusal {
     TableLength,
     TableMark,
