@@ -88,3 +88,16 @@ module _ (t : Table) (s : State) (b : Book) (i : ℕ) where
       let r = first-is (unless (leb (b .latest) (s .clock)) BeforeLastBreak) _ z in
       let h = active-head t s i f (unless-is (isHead t i && active (phaseOf s i)) NotActive (first-is (unless (isHead t i && active (phaseOf s i)) NotActive) [] (r .1) .0)) in
       (leb-true _ _ (unless-is (leb (b .latest) (s .clock)) BeforeLastBreak (r .0)), h .0, h .1)
+
+-- ---- "active": in some slot, and only so
+
+pub active-is : (p : Phase) → active p ≡ true → (k : ℕ) × (p ≡ Active k)
+unfolding active
+active-is Init e = let z : _≡_ {A = ℕ} 0 1 = cc in absurd (omega arith)
+active-is Listen e = let z : _≡_ {A = ℕ} 0 1 = cc in absurd (omega arith)
+active-is Coldstart e = let z : _≡_ {A = ℕ} 0 1 = cc in absurd (omega arith)
+active-is (Active k) e = (k, refl)
+
+pub is-active : (p : Phase) → (k : ℕ) × (p ≡ Active k) → active p ≡ true
+unfolding active
+is-active p a = rw (a .1)

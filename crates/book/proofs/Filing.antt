@@ -84,7 +84,7 @@ module _ (b : Book) (p : ℕ) (e : p ≡ placeOf (b .places) 0) where
   unfolding entryRefusal
   no-place z = sym (rw (full z) (first-some (numberOf NoFreePlace) _ (λ y. omega arith)))
 
-  some-place : (p ≡ 0 → ⊥) → entryRefusal b ≡ numberRefusal b
+  pub some-place : (p ≡ 0 → ⊥) → entryRefusal b ≡ numberRefusal b
   unfolding entryRefusal placeRefusal
   some-place n = first-none _ _ (is-unless _ NoFreePlace (rw (← e, ne-eqb p 0 n))) ∙ first-last (numberRefusal b)
 
@@ -142,3 +142,13 @@ module _ (b : Book) (number : ℕ) where
   pub release-judged : (r : Booked) → bookRefusal b ≡ 0 → Answers r (heldRefusal b number) (bookAfter b (released b number) (heldRefusal b number)) → Answers r (releaseRefusal b number) (releaseAnswer b number)
   unfolding releaseAnswer
   release-judged r z a = (a .0 ∙ release-own z, a .1 ∙ ap (bookAfter b (released b number)) (release-own z))
+
+-- ---- the book that a refused call answers, and an accepted one
+
+pub after-refused : (b c : Book) (number : ℕ) → (number ≡ 0 → ⊥) → bookAfter b c number ≡ b
+unfolding bookAfter
+after-refused b c number n = rw (ne-eqb number 0 n)
+
+pub after-accepted : (b c : Book) (number : ℕ) → number ≡ 0 → bookAfter b c number ≡ c
+unfolding bookAfter
+after-accepted b c number e = rw e

@@ -5,21 +5,21 @@ use mathlib.Core.Logic.{_⊎_, inl, inr}
 use Prim.Native.Nat.{ℕ, _-_}
 use native.Mathlib.Omega.{arith}
 use lib.Dec.{eqb}
-use borrow.Author.Tests.{eqb-false, ltb-true, eq-eqb, ne-eqb, le-ltb, lt-ltb, not-true}
-use Rattle.words.specs.declared.Refusal.the-variants.{NoFreePlace, NoSuchEntry, NoNumberLeft}
-use Rattle.words.specs.Refusal.{numberOf}
-use Rattle.words.proofs.Order.{unless-is, is-unless, unless-not, unless-gives, first-some, first-none, first-last}
+use borrow.Author.Tests.{eqb-false, ltb-true, ne-eqb, le-ltb, lt-ltb, not-true}
+use Rattle.words.specs.declared.Refusal.the-variants.{NoSuchEntry, NoNumberLeft}
+use Rattle.words.proofs.Order.{unless-is, is-unless, unless-not, unless-gives}
 use Rattle.rules.proofs.Each.{same?, less?, and-true, both}
 use Rattle.book.specs.declared.Entry.{Entry}
 use Rattle.book.specs.declared.Book.{Book}
 use Rattle.book.specs.Limits.{lastNumber}
 use Rattle.book.specs.Rows.{at}
 use Rattle.book.specs.Book.{noEntry, noCrossing, entryAt, numberIn, lastCrossing, placeOf}
-use Rattle.book.specs.Calls.{newEntry, isTail, oneMore, moreTails, tailed, placeRefusal, numberRefusal, entryRefusal, entered, heldRefusal, released}
+use Rattle.book.specs.Calls.{newEntry, isTail, oneMore, moreTails, tailed, numberRefusal, entryRefusal, entered, heldRefusal, released}
 use Rattle.book.proofs.Rows.{at-put-same, at-put-other}
-use Rattle.kept.specs.Conditions.{IsPlace, Held, BookMeets}
+use Rattle.book.proofs.Filing.{no-place, some-place, none-held, not-held, is-held}
+use Rattle.kept.specs.Conditions.{Held, BookMeets}
 use Rattle.kept.specs.Claims.{TailExactly, OneMore, LastPlace, TailCounted, LowestFree, EnteredAt, TakesLowest}
-use Rattle.kept.specs.Claims.{AllHeld, FullExactly, SpentExactly, FreedAt, FreesOne, AbsentExactly}
+use Rattle.kept.specs.Claims.{AllHeld, FullExactly, SpentExactly, RoomExactly, FreedAt, FreesOne, AbsentExactly, PresentExactly}
 use Rattle.kept.proofs.Places.{place-number, place-place, place-below, place-nowhere, place-somewhere, number-within, held-same}
 use Rattle.kept.proofs.Places.{counted-other, counted-nowhere, counted-place}
 
@@ -30,15 +30,6 @@ place-held b number n m = record { place = place-place (b .places) number m; num
 -- ---- 18, 20, 19
 
 module _ (b : Book) where
-  -- with no free place it is 18, and otherwise what the numbers say
-  full : placeOf (b .places) 0 ≡ 0 → entryRefusal b ≡ numberOf NoFreePlace
-  unfolding entryRefusal placeRefusal
-  full z = let e = unless-not _ NoFreePlace (ap not (eq-eqb _ 0 z)) in first-some _ _ (omega arith) ∙ e
-
-  room : (placeOf (b .places) 0 ≡ 0 → ⊥) → entryRefusal b ≡ numberRefusal b
-  unfolding entryRefusal placeRefusal
-  room n = first-none _ _ (is-unless _ NoFreePlace (ap not (ne-eqb _ 0 n))) ∙ first-last _
-
   all-held : placeOf (b .places) 0 ≡ 0 → AllHeld b
   all-held z p k = record { place = k; number = place-nowhere (b .places) 0 z p k }
 
@@ -47,24 +38,31 @@ module _ (b : Book) where
 
   -- where no number refuses a new entry there is a free place
   pub entry-place : entryRefusal b ≡ 0 → placeOf (b .places) 0 ≡ 0 → ⊥
-  entry-place e z = omega (arith, full z)
+  entry-place e z = omega (arith, no-place b _ refl z)
 
 pub full-exactly : FullExactly
 unfolding numberRefusal
 full-exactly b = elim (same? (placeOf (b .places) 0) 0) [
-  | inl z ↦ (λ e. all-held b z, λ h. full b z)
-  | inr n ↦ (λ e. absurd (omega (arith, unless-gives _ NoNumberLeft 17 (sym (room b n) ∙ e))), λ h. absurd (not-all b n h))
+  | inl z ↦ (λ e. all-held b z, λ h. sym (no-place b _ refl z))
+  | inr n ↦ (λ e. absurd (omega (arith, unless-gives _ NoNumberLeft 17 (sym (some-place b _ refl n) ∙ e))), λ h. absurd (not-all b n h))
 ]
 
 pub spent-exactly : SpentExactly
 unfolding numberRefusal
 spent-exactly b = elim (same? (placeOf (b .places) 0) 0) [
-  | inl z ↦ (λ e. absurd (omega (arith, full b z)), λ h. absurd (h (all-held b z)))
+  | inl z ↦ (λ e. absurd (omega (arith, no-place b _ refl z)), λ h. absurd (h (all-held b z)))
   | inr n ↦ elim (less? (b .given) lastNumber) [
-    | inl l ↦ (λ e. absurd (omega (arith, room b n, is-unless _ NoNumberLeft (lt-ltb _ _ l))), λ h m. absurd (omega arith))
-    | inr l ↦ (λ e. (not-all b n, l), λ h m. room b n ∙ unless-not _ NoNumberLeft (le-ltb _ _ l))
+    | inl l ↦ (λ e. absurd (omega (arith, some-place b _ refl n, is-unless _ NoNumberLeft (lt-ltb _ _ l))), λ h m. absurd (omega arith))
+    | inr l ↦ (λ e. (not-all b n, l), λ h m. some-place b _ refl n ∙ unless-not _ NoNumberLeft (le-ltb _ _ l))
   ]
 ]
+
+pub room-exactly : RoomExactly
+unfolding numberRefusal
+room-exactly b = (
+  λ e. let n = entry-place b e in (not-all b n, ltb-true _ _ (unless-is _ NoNumberLeft (sym (some-place b _ refl n) ∙ e))),
+  λ r. some-place b _ refl (λ z. r .0 (all-held b z)) ∙ is-unless _ NoNumberLeft (lt-ltb _ _ (r .1)),
+)
 
 module _ (b : Book) (number : ℕ) where
   pub held-some : heldRefusal b number ≡ 0 → number ≡ 0 → ⊥
@@ -75,26 +73,24 @@ module _ (b : Book) (number : ℕ) where
   unfolding heldRefusal
   held-place e = eqb-false _ _ (not-true _ (and-true (not (eqb number 0)) _ (unless-is _ NoSuchEntry e) .1))
 
-  is-held : (number ≡ 0 → ⊥) → (placeOf (b .places) number ≡ 0 → ⊥) → heldRefusal b number ≡ 0
-  unfolding heldRefusal
-  is-held n m = is-unless _ NoSuchEntry (both (ap not (ne-eqb _ 0 n)) (ap not (ne-eqb _ 0 m)))
-
-  absent-none : number ≡ 0 → heldRefusal b number ≡ numberOf NoSuchEntry
-  unfolding heldRefusal
-  absent-none z = unless-not _ NoSuchEntry (rw (eq-eqb number 0 z))
-
-  absent-nowhere : (number ≡ 0 → ⊥) → placeOf (b .places) number ≡ 0 → heldRefusal b number ≡ numberOf NoSuchEntry
-  unfolding heldRefusal
-  absent-nowhere n z = unless-not _ NoSuchEntry (rw (ne-eqb number 0 n, eq-eqb (placeOf (b .places) number) 0 z))
-
 pub absent-exactly : AbsentExactly
 absent-exactly b number = elim (same? number 0) [
-  | inl z ↦ (λ e p h q. h .number (q ∙ z), λ h. absent-none b number z)
+  | inl z ↦ (λ e p h q. h .number (q ∙ z), λ h. sym (none-held b number z))
   | inr n ↦ elim (same? (placeOf (b .places) number) 0) [
-    | inl z ↦ (λ e p h q. place-nowhere (b .places) number z p (h .place) q, λ h. absent-nowhere b number n z)
-    | inr m ↦ (λ e. absurd (omega (arith, is-held b number n m)), λ h. absurd (h _ (place-held b number n m) (place-number (b .places) number m)))
+    | inl z ↦ (λ e p h q. place-nowhere (b .places) number z p (h .place) q, λ h. sym (not-held b number _ refl n z))
+    | inr m ↦ (
+      λ e. absurd (omega (arith, is-held b number _ refl n m)),
+      λ h. absurd (h _ (place-held b number n m) (place-number (b .places) number m)),
+    )
   ]
 ]
+
+pub present-exactly : PresentExactly
+present-exactly b number = (
+  λ e. let m = held-place b number e in (_, (place-held b number (held-some b number e) m, place-number (b .places) number m)),
+  λ w. let n : number ≡ 0 → ⊥ = λ z. w .1 .0 .number (w .1 .1 ∙ z) in
+      sym (is-held b number _ refl n (place-somewhere (b .places) number (w .0) (w .1 .0 .place) (w .1 .1))),
+)
 
 -- ---- a tail
 
@@ -171,13 +167,10 @@ tail-counted b i clock m n = record {
 
 pub lowest-free : (b : Book) → entryRefusal b ≡ 0 → LowestFree b (placeOf (b .places) 0)
 lowest-free b e = record {
-  place = k;
+  place = place-place (b .places) 0 (entry-place b e);
   free = place-number (b .places) 0 (entry-place b e);
-  below = λ q a l. record { place = record { low = a; high = let h = k .high in omega arith }; number = place-below (b .places) 0 q a l };
+  below = λ q a l. record { place = a; number = place-below (b .places) 0 q (a .low) l };
 }
-  where
-    k : IsPlace (placeOf (b .places) 0)
-    k = place-place (b .places) 0 (entry-place b e)
 
 pub takes-lowest : TakesLowest
 unfolding entered

@@ -34,7 +34,6 @@ empty-meets hold = record {
   places = length-replicate allPlaces noEntry;
   heads = length-replicate maxHeads noCrossing;
   once = λ p q h. absurd (empty-held hold p h);
-  number-low = λ p h. absurd (empty-held hold p h);
   number-high = λ p h. absurd (empty-held hold p h);
   tick = λ p h. absurd (empty-held hold p h);
   free = λ p k z. empty-free p;
@@ -50,7 +49,6 @@ keeps-tail b i clock m n l = record {
   places = length-put (b .places) _ _ ∙ m .places;
   heads = m .heads;
   once = λ p q h k e. m .once p q (was p h) (was q k) (sym (same p .number) ∙ e ∙ same q .number);
-  number-low = λ p h. omega (arith, same p .number, m .number-low p (was p h));
   number-high = λ p h. omega (arith, same p .number, m .number-high p (was p h));
   tick = λ p h. omega (arith, same p .tick, m .tick p (was p h));
   free = λ p k z. tail-other b i n clock p (λ q. q .0 .number (sym (same p .number) ∙ z)) ∙ m .free p k (sym (same p .number) ∙ z);
@@ -82,7 +80,6 @@ keeps-release b number m e = record {
   places = length-put (b .places) _ noEntry ∙ m .places;
   heads = m .heads;
   once = λ p q h k e. m .once p q (freed-was f p h) (freed-was f q k) (sym (ap numberIn (same p h)) ∙ e ∙ ap numberIn (same q k));
-  number-low = λ p h. omega (arith, ap numberIn (same p h), m .number-low p (freed-was f p h));
   number-high = λ p h. omega (arith, ap numberIn (same p h), m .number-high p (freed-was f p h));
   tick = λ p h. omega (arith, ap tickIn (same p h), m .tick p (freed-was f p h));
   free = freed-free f m;
@@ -108,9 +105,6 @@ module _ {b c : Book} {i tick clock p : ℕ} (m : BookMeets b) (f : EnteredAt b 
       go (new x u) (old g v) = absurd (omega (arith, ap numberIn u, ap numberIn v, m .number-high r g))
       go (old g u) (new y v) = absurd (omega (arith, ap numberIn u, ap numberIn v, m .number-high q g))
       go (old g u) (old h v) = m .once q r g h (sym (ap numberIn u) ∙ e ∙ ap numberIn v)
-
-  entered-low : (q : ℕ) → Held c q → 1 ≤ numberAt (c .places) q
-  entered-low q h = elim (new-or-old f q h) [ new e x ↦ omega (arith, ap numberIn x) | old g x ↦ omega (arith, ap numberIn x, m .number-low q g) ]
 
   entered-high : (q : ℕ) → Held c q → numberAt (c .places) q ≤ c .given
   entered-high q h = elim (new-or-old f q h) [
@@ -150,7 +144,6 @@ keeps-entry b i tick clock m k a l e = record {
   places = length-put (b .places) _ _ ∙ m .places;
   heads = length-put (b .remembered) i _ ∙ m .heads;
   once = entered-once m f;
-  number-low = entered-low m f;
   number-high = entered-high m f;
   tick = entered-tick m f a l;
   free = entered-free m f;

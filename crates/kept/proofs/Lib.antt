@@ -5,3 +5,4 @@ pub mod Keeps
 pub mod Stays
 pub mod Numbers
 pub mod Own
+pub mod Post

@@ -1,4 +1,4 @@
--- The test of a book says just what the conditions say.
+-- The tests of a book, of a clock and of a head say just what the conditions say.
 use mathlib.Core.Path.{_≡_, sym, ap, _∙_}
 use mathlib.Core.Bool.{Bool, true, false, not, _&&_}
 use mathlib.Core.Logic.{inl, inr}
@@ -7,13 +7,25 @@ use native.Mathlib.Omega.{arith}
 use lib.Dec.{eqb}
 use lib.ListN.{length}
 use borrow.Author.Tests.{eqb-true, eqb-false, leb-true, eq-eqb, ne-eqb, le-leb, not-true}
+use Rattle.words.specs.declared.Refusal.the-variants.{HoldRange, BookRule, BeforeLastBreak, NotActive}
+use Rattle.words.proofs.Order.{unless-is, is-unless}
+use Rattle.rules.specs.declared.Phase.the-variants.{Active}
+use Rattle.rules.specs.declared.State.{State}
+use Rattle.rules.specs.declared.Table.{Table}
 use Rattle.rules.specs.Limits.{maxHeads}
+use Rattle.rules.specs.Table.{isHead}
+use Rattle.rules.specs.State.{phaseOf}
+use Rattle.rules.specs.Conditions.{IsHead, TableMeets}
 use Rattle.rules.specs.Each.{between}
 use Rattle.rules.proofs.Each.{same?, less?, and-true, both, between-is, is-between, every-at, every-of, some-at, some-of}
+use Rattle.rules.proofs.Meaning.{head-is, is-head}
 use Rattle.book.specs.declared.Entry.{Entry}
 use Rattle.book.specs.declared.Book.{Book}
-use Rattle.book.specs.Limits.{allPlaces}
-use Rattle.book.specs.Book.{noEntry, entryAt, numberAt, lastCrossing, known, isZero, repeats, entryFits, placesFit, crossingFits, crossingsFit, bookFits}
+use Rattle.book.specs.Limits.{allPlaces, longestHold}
+use Rattle.book.specs.Book.{noEntry, entryAt, numberAt, lastCrossing, holdRefusal, known, isZero, repeats, entryFits, placesFit, crossingFits}
+use Rattle.book.specs.Book.{crossingsFit, bookFits, rulesRefusal}
+use Rattle.book.specs.Breaks.{clockRefusal, headRefusal}
+use Rattle.book.proofs.Admits.{active-is, is-active}
 use Rattle.kept.specs.Conditions.{IsPlace, AnyHead, Held, BookMeets}
 use Rattle.kept.specs.Claims.{MeetsExactly}
 use Rattle.kept.proofs.Places.{a-held, a-free, place?}
@@ -133,7 +145,6 @@ module _ (b : Book) (f : Fits b) where
       | inl l ↦ absurd (repeats-not b q p (fits-held q k .1) (h .place .low) l e)
       | inr m ↦ elim (less? q p) [ inl l ↦ absurd (repeats-not b p q (fits-held p h .1) (k .place .low) l (sym e)) | inr l ↦ omega arith ]
     ];
-    number-low = λ p h. fits-held p h .0 .low;
     number-high = λ p h. fits-held p h .0 .high;
     tick = λ p h. fits-held p h .0 .past;
     free = λ p k z. zero-entry _ z (sym (free-test b p z) ∙ f .place p k);
@@ -152,8 +163,9 @@ module _ (b : Book) (m : BookMeets b) where
   unfolding isZero
   meets-place p k = elim (place? b p k) [
     | a-free z ↦ free-test b p z ∙ ap isZero (m .free p k z)
-    | a-held h ↦ let w : KnownAt b p = record { low = m .number-low p h; high = m .number-high p h; past = m .tick p h } in
-        held-test b p (h .number) ∙ both (is-known _ _ _ _ w) (ap not (not-repeats b p (alone p h)))
+    | a-held h ↦ let n = h .number in
+        let w : KnownAt b p = record { low = omega arith; high = m .number-high p h; past = m .tick p h } in
+        held-test b p n ∙ both (is-known _ _ _ _ w) (ap not (not-repeats b p (alone p h)))
   ]
 
   meets-last : (i : ℕ) → AnyHead i → lastTest b i ≡ true
@@ -168,3 +180,46 @@ meets-exactly b = (
   λ e. fits-meets b (fits-is b e),
   λ m. is-fits b record { places = m .places; heads = m .heads; place = meets-place b m; last = meets-last b m },
 )
+
+-- ---- what the calls of every post ask of a book, a clock and a head
+
+pub hold-is : (hold : ℕ) → holdRefusal hold ≡ 0 → (1 ≤ hold) × (hold ≤ longestHold)
+unfolding holdRefusal
+hold-is hold e = between-is 1 longestHold hold (unless-is _ HoldRange e)
+
+pub is-hold : (hold : ℕ) → 1 ≤ hold → hold ≤ longestHold → holdRefusal hold ≡ 0
+unfolding holdRefusal
+is-hold hold l h = is-unless _ HoldRange (is-between 1 longestHold hold l h)
+
+module _ (b : Book) where
+  pub rules-are : rulesRefusal b ≡ 0 → BookMeets b
+  unfolding rulesRefusal
+  rules-are e = meets-exactly b .0 (unless-is _ BookRule e)
+
+  pub are-rules : BookMeets b → rulesRefusal b ≡ 0
+  unfolding rulesRefusal
+  are-rules m = is-unless _ BookRule (meets-exactly b .1 m)
+
+  pub clock-is : (clock : ℕ) → clockRefusal b clock ≡ 0 → b .latest ≤ clock
+  unfolding clockRefusal
+  clock-is clock e = leb-true _ _ (unless-is _ BeforeLastBreak e)
+
+  pub is-clock : (clock : ℕ) → b .latest ≤ clock → clockRefusal b clock ≡ 0
+  unfolding clockRefusal
+  is-clock clock l = is-unless _ BeforeLastBreak (le-leb _ _ l)
+
+-- one of the table's heads, active in some slot
+abbrev pub ActiveHead : Table → State → ℕ → Type 0
+ActiveHead t s i = IsHead t i × ((k : ℕ) × (phaseOf s i ≡ Active k))
+
+pub any-head : {t : Table} {i : ℕ} → TableMeets t → IsHead t i → AnyHead i
+any-head f h = record { low = h .low; high = let n = h .high in let m = f .heads in omega arith }
+
+module _ (t : Table) (s : State) (i : ℕ) where
+  pub active-head-is : headRefusal t s i ≡ 0 → ActiveHead t s i
+  unfolding headRefusal
+  active-head-is e = let r = and-true (isHead t i) _ (unless-is _ NotActive e) in (head-is t i (r .0), active-is _ (r .1))
+
+  pub is-active-head : ActiveHead t s i → headRefusal t s i ≡ 0
+  unfolding headRefusal
+  is-active-head a = is-unless _ NotActive (both (is-head t i (a .0)) (is-active _ (a .1)))

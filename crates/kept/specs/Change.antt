@@ -16,7 +16,8 @@ pub data Effect : Type 0 where
 pub data Change (b : Book) : Effect → Book → Type 0 where
   -- "A refused call returns the book as it was given."
   refused : Change b none b
-  -- "the break is a tail": of the last crossing of head i, at a clock that is not below that of the last break
+  -- "the break is a tail": of the last crossing of head i, at a clock that is not below that of the last break. Whether a break is a tail is the
+  -- post's matter: the single beam tests it against its head's last crossing, P9 against its post's.
   a-tail : (i clock : ℕ) → AnyHead i → (lastCrossing b i .number ≡ 0 → ⊥) → b .latest ≤ clock → Change b none (tailed b i clock)
   -- "it takes the lowest free place, with a number": a crossing of head i, at the clock or before it
   an-entry : (i tick clock : ℕ) → AnyHead i → tick ≤ clock → b .latest ≤ clock → entryRefusal b ≡ 0 →

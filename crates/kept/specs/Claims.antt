@@ -1,5 +1,5 @@
 -- Document 02, P4: what every book keeps, as claims about the definitions of book. None asks that the book was made by calls; where a claim
--- needs the book rules, it says so.
+-- needs the book rules (BookMeets), or that an entry is the head's that remembers it (Own), it says so.
 use mathlib.Core.Path.{_≡_}
 use mathlib.Core.Bool.{true}
 use mathlib.Core.List.{List, [], _∷_, List·Memᴰ}
@@ -83,7 +83,7 @@ TailCounted = (b : Book) (i clock : ℕ) → BookMeets b → (lastCrossing b i .
 pub record LowestFree (b : Book) (p : ℕ) : Type 0 where
   pub place : IsPlace p
   pub free : numberAt (b .places) p ≡ 0
-  pub below : (q : ℕ) → 1 ≤ q → q < p → Held b q
+  pub below : (q : ℕ) → IsPlace q → q < p → Held b q
 
 -- the book c with it entered in place p of b at a clock: nothing else moves
 pub record EnteredAt (b c : Book) (i tick clock p : ℕ) : Type 0 where
@@ -114,6 +114,13 @@ SpentExactly =
     (entryRefusal b ≡ numberOf NoNumberLeft → (AllHeld b → ⊥) × (lastNumber ≤ b .given)) ×
     ((AllHeld b → ⊥) → lastNumber ≤ b .given → entryRefusal b ≡ numberOf NoNumberLeft)
 
+-- so a new entry is refused with neither exactly where a place is free and a number is left
+abbrev pub Room : Book → Type 0
+Room b = (AllHeld b → ⊥) × (b .given < lastNumber)
+
+abbrev pub RoomExactly : Type 0
+RoomExactly = (b : Book) → (entryRefusal b ≡ 0 → Room b) × (Room b → entryRefusal b ≡ 0)
+
 -- ---- "Releasing an entry by number frees its place for use again; the head's last crossing is still remembered."
 
 pub record FreedAt (b c : Book) (number p : ℕ) : Type 0 where
@@ -137,6 +144,13 @@ abbrev pub AbsentExactly : Type 0
 AbsentExactly =
     (b : Book) (number : ℕ) →
     (heldRefusal b number ≡ numberOf NoSuchEntry → Absent b number) × (Absent b number → heldRefusal b number ≡ numberOf NoSuchEntry)
+
+-- so a release is not refused with it exactly where some place holds one
+abbrev pub Present : Book → ℕ → Type 0
+Present b number = (p : ℕ) × (Held b p × (numberAt (b .places) p ≡ number))
+
+abbrev pub PresentExactly : Type 0
+PresentExactly = (b : Book) (number : ℕ) → (heldRefusal b number ≡ 0 → Present b number) × (Present b number → heldRefusal b number ≡ 0)
 
 -- ---- "with a number that rises from 1 and is never given twice"
 

@@ -30,8 +30,7 @@ pub record BookMeets (b : Book) : Type 0 where
   pub heads : length (b .remembered) ≡ maxHeads
   -- not "a book whose held numbers repeat": two held places with one number are one place
   pub once : (p q : ℕ) → Held b p → Held b q → numberAt (b .places) p ≡ numberAt (b .places) q → p ≡ q
-  -- not one "whose held [..] numbers aren't 1 to the last given"
-  pub number-low : (p : ℕ) → Held b p → 1 ≤ numberAt (b .places) p
+  -- not one "whose held [..] numbers aren't 1 to the last given"; a held number is not 0
   pub number-high : (p : ℕ) → Held b p → numberAt (b .places) p ≤ b .given
   -- not one "whose held [..] crossings are later than its last break"
   pub tick : (p : ℕ) → Held b p → entryAt (b .places) p .tick ≤ b .latest

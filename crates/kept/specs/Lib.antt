@@ -1,3 +1,4 @@
 pub mod Conditions
 pub mod Change
 pub mod Claims
+pub mod Post

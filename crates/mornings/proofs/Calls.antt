@@ -1,179 +1,185 @@
--- Each call on a single-beam book is one of the changes that every book keeps to.
-use mathlib.Core.Path.{_≡_, refl, sym, ap, _∙_}
-use mathlib.Core.Bool.{true, false, not}
-use mathlib.Core.List.{List, [], _∷_, List·Memᴰ·not-nil, List·Memᴰ·cases-cons}
+-- A call on a single-beam book is accepted exactly where the conditions hold, and each call is one of the changes that every book keeps to.
+use mathlib.Core.Path.{_≡_, refl, sym, _∙_}
+use mathlib.Core.Bool.{true, false}
+use mathlib.Core.List.{[]}
 use mathlib.Core.Logic.{inl, inr}
-use Prim.Native.Nat.{ℕ, suc, _≤_}
+use Prim.Native.Nat.{ℕ, suc}
 use native.Mathlib.Omega.{arith}
-use lib.Dec.{eqb}
-use borrow.Author.Tests.{leb-true, eqb-false, ne-eqb, lt-ltb, le-ltb, not-true}
-use Rattle.words.specs.declared.Refusal.the-variants.{TableRange, BookRule, BeforeLastBreak, NotActive}
-use Rattle.words.proofs.Order.{unless-is, first-is, row-is}
+use Rattle.words.specs.declared.Refusal.the-variants.{TableRange, StateRule}
+use Rattle.words.proofs.Order.{unless-is, is-unless, first-is, is-first, first-last, row-is, is-row}
 use Rattle.rules.specs.declared.State.{State}
 use Rattle.rules.specs.declared.Table.{Table}
-use Rattle.rules.specs.Table.{isHead, tableRefusal}
-use Rattle.rules.proofs.Each.{same?, either?, and-true, no}
-use Rattle.rules.proofs.Meaning.{head-is, table-meets}
+use Rattle.rules.specs.Table.{tableRefusal}
+use Rattle.rules.specs.State.{stateRefusal}
+use Rattle.rules.proofs.Each.{same?, either?, not-both, no}
+use Rattle.rules.proofs.Meaning.{table-meets, meets-table, state-meets, meets-state}
 use Rattle.book.specs.declared.Book.{Book}
-use Rattle.book.specs.Book.{lastCrossing, bookFits, rulesRefusal}
-use Rattle.book.specs.Calls.{isTail, tailed, entryRefusal, entered, bookAfter, releaseRefusal, released, releaseAnswer}
-use Rattle.book.specs.Breaks.{clockRefusal, headRefusal}
+use Rattle.book.specs.Calls.{isTail, entryRefusal, releaseRefusal, released, releaseAnswer}
+use Rattle.book.proofs.Filing.{after-refused, after-accepted}
 use Rattle.single_beam.specs.Break.{newRefusal, crossRefusal, breakRefusal, crossed, breakAnswer}
+use Rattle.single_beam.proofs.Laws.{tail-files, new-files, tail-passes, new-asks}
 use Rattle.kept.specs.Conditions.{AnyHead}
-use Rattle.kept.specs.Change.{Effect, none, gives, frees, Change, refused, a-tail, an-entry, a-release, no-more, first, givenIn}
+use Rattle.kept.specs.Change.{none, gives, frees, refused, a-tail, an-entry, a-release}
 use Rattle.kept.specs.Claims.{Young}
-use Rattle.kept.proofs.Meaning.{meets-exactly}
-use Rattle.kept.proofs.Calls.{tail-exactly}
-use Rattle.mornings.specs.Morning.{Call, break, release, refusalOf, answer, afterCalls, withRaised, numbersGiven, ReleasedIn, now, later}
-use Rattle.mornings.specs.Claims.{CallChanges, RefusedKept, BreakFiles, ReleaseFrees, CallsChange}
+use Rattle.kept.specs.Post.{Changes}
+use Rattle.kept.proofs.Meaning.{hold-is, is-hold, rules-are, are-rules, clock-is, is-clock, any-head, active-head-is, is-active-head}
+use Rattle.kept.proofs.Calls.{tail-exactly, room-exactly, present-exactly}
+use Rattle.kept.proofs.Post.{none-frees, gives-frees}
+use Rattle.mornings.specs.Morning.{Call, break, release, refusalOf, answer, Releases, accepted, singleBeam}
+use Rattle.mornings.specs.Conditions.{MayBreak, MayRelease, May}
+use Rattle.mornings.specs.Claims.{AcceptedExactly, CallChanges, RefusedKept, BreakFiles, ReleaseFrees}
 
--- ---- refused and accepted
+-- ---- accepted exactly where the conditions hold
 
-after-refused : (b c : Book) (number : ℕ) → (number ≡ 0 → ⊥) → bookAfter b c number ≡ b
-unfolding bookAfter
-after-refused b c number n = rw (ne-eqb number 0 n)
+module _ {t : Table} {s : State} {b : Book} {i : ℕ} (m : MayBreak t s b i) where
+  tail-young : (isTail b i (s .clock) ≡ true → Young b i (s .clock)) × (Young b i (s .clock) → isTail b i (s .clock) ≡ true)
+  tail-young = tail-exactly b i (s .clock) (m .rules) (any-head (m .table) (m .head)) (m .clock)
 
-after-accepted : (b c : Book) (number : ℕ) → number ≡ 0 → bookAfter b c number ≡ c
-unfolding bookAfter
-after-accepted b c number e = rw e
+  -- where it is no tail, an entry is refused with neither 18 nor 20
+  has-room : isTail b i (s .clock) ≡ false → entryRefusal b ≡ 0
+  has-room q = elim (m .room) [ inl y ↦ not-both (isTail b i (s .clock)) (tail-young .1 y) q | inr r ↦ room-exactly b .1 r ]
+
+  new-none : newRefusal b i (s .clock) ≡ 0
+  new-none = elim (either? (isTail b i (s .clock))) [ inl q ↦ tail-passes b i (s .clock) q | inr q ↦ new-asks b i (s .clock) q ∙ has-room q ]
+
+module _ (t : Table) (s : State) (b : Book) (i : ℕ) where
+  break-is : breakRefusal t s b i ≡ 0 → MayBreak t s b i
+  unfolding breakRefusal tableRefusal stateRefusal crossRefusal
+  break-is e =
+      let table = first-is _ _ e in
+      let state = first-is _ _ (table .1) in
+      let hold = first-is _ _ (state .1) in
+      let rules = first-is _ _ (hold .1) in
+      let row = row-is _ _ _ (first-is _ [] (rules .1) .0) in
+      let f = table-meets t (unless-is _ TableRange (table .0)) in
+      let m = rules-are b (rules .0) in
+      let l = clock-is b (s .clock) (row .0) in
+      let a = active-head-is t s i (row .1) in
+      record {
+        table = f;
+        state = state-meets t s (f .heads) (unless-is _ StateRule (state .0));
+        hold-low = hold-is (b .hold) (hold .0) .0;
+        hold-high = hold-is (b .hold) (hold .0) .1;
+        rules = m;
+        clock = l;
+        head = a .0;
+        active = a .1;
+        room = elim (either? (isTail b i (s .clock))) [
+          | inl q ↦ inl (tail-exactly b i (s .clock) m (any-head f (a .0)) l .0 q)
+          | inr q ↦ inr (room-exactly b .0 (sym (new-asks b i (s .clock) q) ∙ row .2))
+        ];
+      }
+
+  is-break : MayBreak t s b i → breakRefusal t s b i ≡ 0
+  unfolding breakRefusal tableRefusal stateRefusal crossRefusal
+  is-break m =
+      is-first _ _ (is-unless _ TableRange (meets-table t (m .table)))
+      (is-first _ _ (is-unless _ StateRule (meets-state t s (m .state)))
+      (is-first _ _ (is-hold (b .hold) (m .hold-low) (m .hold-high))
+      (is-first _ _ (are-rules b (m .rules))
+      (first-last _ ∙ is-row (is-clock b (s .clock) (m .clock)) (is-active-head t s i (m .head, m .active)) (new-none m)))))
+
+module _ (b : Book) (number : ℕ) where
+  pub release-is : releaseRefusal b number ≡ 0 → MayRelease b number
+  unfolding releaseRefusal
+  release-is e =
+      let r = row-is _ _ _ e in
+      let h = hold-is (b .hold) (r .0) in
+      record { hold-low = h .0; hold-high = h .1; rules = rules-are b (r .1); entry = present-exactly b number .0 (r .2) }
+
+  is-release : MayRelease b number → releaseRefusal b number ≡ 0
+  unfolding releaseRefusal
+  is-release m = is-row (is-hold (b .hold) (m .hold-low) (m .hold-high)) (are-rules b (m .rules)) (present-exactly b number .1 (m .entry))
+
+pub accepted-exactly : AcceptedExactly
+unfolding refusalOf May
+accepted-exactly b (break t s i) = (break-is t s b i, is-break t s b i)
+accepted-exactly b (release number) = (release-is b number, is-release b number)
+
+-- ---- what is answered
 
 pub refused-kept : RefusedKept
 unfolding refusalOf answer breakAnswer releaseAnswer
 refused-kept b (break t s i) n = after-refused b _ _ n
 refused-kept b (release number) n = after-refused b _ _ n
 
--- ---- a break that is accepted
-
-record Crosses (t : Table) (s : State) (b : Book) (i : ℕ) : Type 0 where
-  fits : bookFits b ≡ true
-  late : b .latest ≤ s .clock
-  head : AnyHead i
-  room : newRefusal b i (s .clock) ≡ 0
-
-crosses : (t : Table) (s : State) (b : Book) (i : ℕ) → breakRefusal t s b i ≡ 0 → Crosses t s b i
-unfolding breakRefusal tableRefusal rulesRefusal crossRefusal clockRefusal headRefusal
-crosses t s b i e =
-    let table = first-is _ _ e in
-    let state = first-is _ _ (table .1) in
-    let hold = first-is _ _ (state .1) in
-    let rules = first-is _ _ (hold .1) in
-    let cross = first-is _ [] (rules .1) in
-    let row = row-is _ _ _ (cross .0) in
-    let m = table-meets t (unless-is _ TableRange (table .0)) in
-    let h = head-is t i (and-true (isHead t i) _ (unless-is _ NotActive (row .1)) .0) in
-    record {
-      fits = unless-is _ BookRule (rules .0);
-      late = leb-true _ _ (unless-is _ BeforeLastBreak (row .0));
-      head = record { low = h .low; high = let a = h .high in let z = m .heads in omega arith };
-      room = row .2;
-    }
-
-tail-last : (b : Book) (i clock : ℕ) → isTail b i clock ≡ true → lastCrossing b i .number ≡ 0 → ⊥
-unfolding isTail
-tail-last b i clock e = eqb-false _ _ (not-true _ (and-true (not (eqb (lastCrossing b i .number) 0)) _ e .0))
-
-new-room : (b : Book) (i clock : ℕ) → isTail b i clock ≡ false → newRefusal b i clock ≡ 0 → entryRefusal b ≡ 0
-unfolding newRefusal
-new-room b i clock f e = rw f at e
-
-crossed-tail : (b : Book) (i clock : ℕ) → isTail b i clock ≡ true → crossed b i clock ≡ tailed b i clock
-unfolding crossed
-crossed-tail b i clock e = rw e
-
-crossed-new : (b : Book) (i clock : ℕ) → isTail b i clock ≡ false → crossed b i clock ≡ entered b i clock clock
-unfolding crossed
-crossed-new b i clock e = rw e
+module _ (t : Table) (s : State) (b : Book) (i : ℕ) where
+  break-crosses : breakRefusal t s b i ≡ 0 → breakAnswer t s b i ≡ crossed b i (s .clock)
+  unfolding breakAnswer
+  break-crosses e = after-accepted b (crossed b i (s .clock)) _ e
 
 pub break-files : BreakFiles
-unfolding breakAnswer
-break-files t s b i e = (
-  λ y. after-accepted b (crossed b i (s .clock)) _ e ∙ crossed-tail b i (s .clock) (young .1 y),
-  λ n. after-accepted b (crossed b i (s .clock)) _ e ∙ crossed-new b i (s .clock) (sym (no (λ q. n (young .0 q)))),
+break-files t s b i e = let y = tail-young (break-is t s b i e) in (
+  λ k. break-crosses t s b i e ∙ tail-files b i (s .clock) (y .1 k),
+  λ n. break-crosses t s b i e ∙ new-files b i (s .clock) (sym (no (λ q. n (y .0 q)))),
 )
-  where
-    young : (isTail b i (s .clock) ≡ true → Young b i (s .clock)) × (Young b i (s .clock) → isTail b i (s .clock) ≡ true)
-    young = let w = crosses t s b i e in tail-exactly b i (s .clock) (meets-exactly b .0 (w .fits)) (w .head) (w .late)
-
--- ---- a release that is accepted
 
 pub release-frees : ReleaseFrees
 unfolding releaseAnswer releaseRefusal
 release-frees b number e = (row-is _ _ _ e .2, after-accepted b (released b number) _ e)
 
--- ---- each call is a change, and frees a number only where its release is accepted
+-- ---- each call is a change, and frees a number exactly where its release is accepted
 
-record Changes (b : Book) (x : Call) : Type 0 where
-  effect : Effect
-  change : Change b effect (answer b x)
-  freed : (number : ℕ) (rest : List Call) → frees number ≡ effect → ReleasedIn b (x ∷ rest) number
+refused-changes : (b : Book) (x : Call) → (refusalOf b x ≡ 0 → ⊥) → Changes singleBeam b x
+unfolding refusalOf
+refused-changes b x n = record {
+  effect = none;
+  change = rw (refused-kept b x n) refused;
+  only = λ number q. none-frees q;
+  there = λ number f. absurd (none-released x n f);
+}
+  where
+    none-released : (x : Call) → (refusalOf b x ≡ 0 → ⊥) → {number : ℕ} → Releases b x number → ⊥
+    none-released (release k) n (accepted e) = n e
 
-not-none : {A : Type 0} {number : ℕ} → frees number ≡ none → A
-not-none q = let z : _≡_ {A = ℕ} 0 1 = cc in absurd (omega arith)
-
-not-gives : {A : Type 0} {number n : ℕ} → frees number ≡ gives n → A
-not-gives q = let z : _≡_ {A = ℕ} 0 1 = cc in absurd (omega arith)
-
-refused-changes : (b : Book) (x : Call) → (refusalOf b x ≡ 0 → ⊥) → Changes b x
-refused-changes b x n = record { effect = none; change = rw (refused-kept b x n) refused; freed = λ number rest q. not-none q }
-
-break-changes : (t : Table) (s : State) (b : Book) (i : ℕ) → breakRefusal t s b i ≡ 0 → Changes b (break t s i)
-unfolding answer breakAnswer
-break-changes t s b i e = let w = crosses t s b i e in let clock = s .clock in elim (either? (isTail b i clock)) [
-  | inl y ↦ record {
+break-changes : (t : Table) (s : State) (b : Book) (i : ℕ) → breakRefusal t s b i ≡ 0 → Changes singleBeam b (break t s i)
+unfolding answer
+break-changes t s b i e = elim (either? (isTail b i clock)) [
+  | inl q ↦ record {
     effect = none;
-    change = rw (accepted, crossed-tail b i clock y) (a-tail i clock (w .head) (tail-last b i clock y) (w .late));
-    freed = λ number rest q. not-none q;
+    change = rw (break-crosses t s b i e, tail-files b i clock q) (a-tail i clock k (tail-young m .0 q .0) (m .clock));
+    only = λ number q. none-frees q;
+    there = λ number f. absurd (no-release f);
   }
-  | inr y ↦ record {
+  | inr q ↦ record {
     effect = gives (suc (b .given));
-    change = rw (accepted, crossed-new b i clock y) (an-entry i clock clock (w .head) (omega arith) (w .late) (new-room b i clock y (w .room)));
-    freed = λ number rest q. not-gives q;
+    change = rw (break-crosses t s b i e, new-files b i clock q) (an-entry i clock clock k (omega arith) (m .clock) (has-room m q));
+    only = λ number q. gives-frees q;
+    there = λ number f. absurd (no-release f);
   }
 ]
   where
-    accepted : bookAfter b (crossed b i (s .clock)) (breakRefusal t s b i) ≡ crossed b i (s .clock)
-    accepted = after-accepted b (crossed b i (s .clock)) _ e
+    clock : ℕ
+    clock = s .clock
 
-release-changes : (b : Book) (number : ℕ) → releaseRefusal b number ≡ 0 → Changes b (release number)
+    m : MayBreak t s b i
+    m = break-is t s b i e
+
+    k : AnyHead i
+    k = any-head (m .table) (m .head)
+
+    no-release : {number : ℕ} → Releases b (break t s i) number → ⊥
+    no-release = elim [ ]
+
+release-changes : (b : Book) (number : ℕ) → releaseRefusal b number ≡ 0 → Changes singleBeam b (release number)
 unfolding answer
 release-changes b number e = record {
   effect = frees number;
   change = rw (release-frees b number e .1) (a-release number (release-frees b number e .0));
-  freed = λ n rest q. let s : n ≡ number = cc in rw s (now e);
+  only = λ n q. let s : n ≡ number = cc in rw s (accepted e);
+  there = λ n f. same n f;
 }
+  where
+    same : (n : ℕ) → Releases b (release number) n → frees number ≡ frees n
+    same n (accepted f) = refl
 
-changes : (b : Book) (x : Call) → Changes b x
+pub call-changes : CallChanges
 unfolding refusalOf
-changes b (break t s i) = elim (same? (breakRefusal t s b i) 0) [
+call-changes b (break t s i) = elim (same? (breakRefusal t s b i) 0) [
   | inl e ↦ break-changes t s b i e
   | inr n ↦ refused-changes b (break t s i) n
 ]
-changes b (release number) = elim (same? (releaseRefusal b number) 0) [
+call-changes b (release number) = elim (same? (releaseRefusal b number) 0) [
   | inl e ↦ release-changes b number e
   | inr n ↦ refused-changes b (release number) n
 ]
-
-pub call-changes : CallChanges
-call-changes b x = (changes b x .effect, changes b x .change)
-
--- ---- calls one after the other
-
--- a number is given just where the last given is raised
-given-change : {b c : Book} {x : Effect} → Change b x c → (rest : List Effect) → givenIn (x ∷ rest) ≡ withRaised (b .given) (c .given) (givenIn rest)
-unfolding givenIn withRaised tailed entered released
-given-change {b} refused rest = rw (le-ltb (b .given) (b .given) (omega arith))
-given-change {b} (a-tail i clock k n l) rest = rw (le-ltb (b .given) (b .given) (omega arith))
-given-change {b} (an-entry i tick clock k a l e) rest = rw (lt-ltb (b .given) (suc (b .given)) (omega arith))
-given-change {b} (a-release number e) rest = rw (le-ltb (b .given) (b .given) (omega arith))
-
-pub calls-change : CallsChange
-unfolding afterCalls numbersGiven givenIn
-calls-change b [] = ([], record { row = no-more; given = refl; freed = λ number m. absurd (List·Memᴰ·not-nil m) })
-calls-change b (x ∷ xs) = let r = calls-change (answer b x) xs in let w = changes b x in (
-  w .effect ∷ r .0,
-  record {
-    row = first (w .change) (r .1 .row);
-    given = given-change (w .change) (r .0) ∙ ap (withRaised (b .given) (answer b x .given)) (r .1 .given);
-    freed = λ number m. elim (List·Memᴰ·cases-cons m) [ inl q ↦ w .freed number xs q | inr u ↦ later (r .1 .freed number u) ];
-  },
-)

@@ -1,58 +1,52 @@
 -- What kept proves of rows of changes, said of calls; and a book made by calls is never refused for itself.
-use mathlib.Core.Path.{_≡_}
-use mathlib.Core.Bool.{Bool, true}
+use mathlib.Core.Path.{_≡_, refl}
+use mathlib.Core.Bool.{Bool}
 use mathlib.Core.List.{List, [], _∷_}
 use mathlib.Core.Logic.{inl, inr}
 use Prim.Native.Nat.{ℕ, zero, suc}
 use native.Mathlib.Omega.{arith}
 use Rattle.words.specs.declared.Refusal.{Refusal}
-use Rattle.words.specs.declared.Refusal.the-variants.{TableRange, StateRule, HoldRange, BeforeLastBreak, NotActive}
-use Rattle.words.specs.declared.Refusal.the-variants.{NoFreePlace, NoSuchEntry, NoNumberLeft, BookRule}
+use Rattle.words.specs.declared.Refusal.the-variants.{TableRange, StateRule, BeforeLastBreak, NotActive, NoFreePlace, NoSuchEntry, NoNumberLeft}
 use Rattle.words.specs.Refusal.{numberOf, unless, firstOf}
-use Rattle.words.proofs.Order.{unless-is, is-unless, unless-gives, first-is, row-is}
+use Rattle.words.proofs.Order.{unless-gives}
 use Rattle.rules.specs.Table.{tableRefusal}
 use Rattle.rules.specs.State.{stateRefusal}
-use Rattle.rules.proofs.Each.{either?, is-between}
+use Rattle.rules.proofs.Each.{either?}
 use Rattle.book.specs.declared.Book.{Book}
-use Rattle.book.specs.Limits.{longestHold}
-use Rattle.book.specs.Book.{emptyBook, bookFits, holdRefusal, rulesRefusal}
+use Rattle.book.specs.Book.{emptyBook, holdRefusal, rulesRefusal}
 use Rattle.book.specs.Calls.{isTail, placeRefusal, numberRefusal, entryRefusal, heldRefusal, releaseRefusal}
 use Rattle.book.specs.Breaks.{clockRefusal, headRefusal}
 use Rattle.single_beam.specs.Break.{newRefusal, crossRefusal, breakRefusal}
-use Rattle.kept.specs.Change.{Row, no-more, first}
-use Rattle.kept.specs.Claims.{Own}
-use Rattle.kept.proofs.Meaning.{meets-exactly}
-use Rattle.kept.proofs.Keeps.{empty-meets, keeps-rules, hold-stays}
-use Rattle.kept.proofs.Stays.{entries-stay}
-use Rattle.kept.proofs.Numbers.{numbers-rise, never-twice, never-again}
-use Rattle.kept.proofs.Own.{empty-own, own-entries}
-use Rattle.mornings.specs.Morning.{Call, break, release, refusalOf, answer, afterCalls}
-use Rattle.mornings.specs.Claims.{AcceptedFits, MadeFits, NumbersOnce, NumbersGone, EntryKept}
-use Rattle.mornings.proofs.Calls.{call-changes, calls-change}
+use Rattle.kept.specs.Conditions.{BookMeets}
+use Rattle.kept.specs.Post.{afterCalls, MadeBook}
+use Rattle.kept.proofs.Meaning.{meets-exactly, is-hold, are-rules}
+use Rattle.kept.proofs.Keeps.{keeps-change}
+use Rattle.kept.proofs.Post.{every-post}
+use Rattle.mornings.specs.Morning.{Call, break, release, refusalOf, answer, accepted, singleBeam}
+use Rattle.mornings.specs.Conditions.{May}
+use Rattle.mornings.specs.Claims.{AcceptedFits, CallsKept, ReleasedGone, MadeFits}
+use Rattle.mornings.proofs.Calls.{release-is, accepted-exactly, call-changes}
 
 -- ---- what kept says
 
-pub numbers-once : NumbersOnce
-numbers-once b xs = let r = calls-change b xs in rw (← (r .1 .given)) (numbers-rise b _ (r .0) (r .1 .row), never-twice b _ (r .0) (r .1 .row) .0)
+pub calls-kept : CallsKept
+calls-kept = every-post singleBeam call-changes
 
-pub numbers-gone : NumbersGone
-numbers-gone b xs n l f = let r = calls-change b xs in never-again b _ (r .0) n l f (r .1 .row)
-
-pub entry-kept : EntryKept
-entry-kept b xs p h f = let r = calls-change b xs in entries-stay b _ (r .0) p h (r .1 .row) (λ m. f (r .1 .freed _ m))
+pub released-gone : ReleasedGone
+unfolding answer
+released-gone b number xs e = calls-kept .freed b (release number) xs number (release-is b number e .rules) (accepted e)
 
 -- ---- an accepted call answers a book that fits
 
-accepted-rules : (b : Book) (x : Call) → refusalOf b x ≡ 0 → rulesRefusal b ≡ 0
-unfolding refusalOf breakRefusal releaseRefusal
-accepted-rules b (break t s i) e = first-is _ _ (first-is _ _ (first-is _ _ (first-is _ _ e .1) .1) .1) .0
-accepted-rules b (release number) e = row-is _ _ _ e .1
+accepted-meets : (b : Book) (x : Call) → May b x → BookMeets b
+unfolding May
+accepted-meets b (break t s i) m = m .rules
+accepted-meets b (release number) m = m .rules
 
 pub accepted-fits : AcceptedFits
-unfolding rulesRefusal
 accepted-fits b x e =
-    let m = meets-exactly b .0 (unless-is _ BookRule (accepted-rules b x e)) in
-    meets-exactly (answer b x) .1 (keeps-rules b (answer b x) _ m (first (call-changes b x .1) no-more))
+    let m = accepted-meets b x (accepted-exactly b x .0 e) in
+    meets-exactly (answer b x) .1 (keeps-change m (call-changes b x .change))
 
 -- ---- a book made by calls is never refused with 15 or 25
 
@@ -105,28 +99,21 @@ module _ (k : ℕ) (a : Another (suc k)) (b : Book) (h : holdRefusal (b .hold) �
       not-first k _ _ (λ e. omega arith) (not-first k _ _ (λ e. omega arith) (not-first k _ _ (unless-other _ NoSuchEntry (a .entry)) (not-last k)))
 
 pub made-fits : MadeFits
-unfolding holdRefusal rulesRefusal
 made-fits hold xs l h = record {
-  fits = fits;
+  fits = meets-exactly b .1 (made .meets);
   hold = call-other 14 (omega arith) b range rules;
   rules = call-other 24 (omega arith) b range rules;
-  own = own;
+  own = made .own;
 }
   where
     b : Book
-    b = afterCalls (emptyBook hold) xs
+    b = afterCalls singleBeam (emptyBook hold) xs
 
-    row : Row (emptyBook hold) (calls-change (emptyBook hold) xs .0) b
-    row = calls-change (emptyBook hold) xs .1 .row
-
-    fits : bookFits b ≡ true
-    fits = meets-exactly b .1 (keeps-rules (emptyBook hold) b _ (empty-meets hold) row)
-
-    own : Own b
-    own = own-entries (emptyBook hold) b _ (empty-meets hold) (empty-own hold) row
+    made : MadeBook hold b
+    made = calls-kept .made (emptyBook hold) xs hold refl
 
     range : holdRefusal (b .hold) ≡ 0
-    range = is-unless _ HoldRange (let e = hold-stays (emptyBook hold) b _ row in is-between 1 longestHold (b .hold) (omega arith) (omega arith))
+    range = let e = made .hold-stays in is-hold (b .hold) (omega arith) (omega arith)
 
     rules : rulesRefusal b ≡ 0
-    rules = is-unless _ BookRule fits
+    rules = are-rules b (made .meets)

@@ -12,7 +12,8 @@ use Rattle.rules.proofs.Each.{same?}
 use Rattle.exact.proofs.Keeps.{keeps-judged, refused-stays}
 use Rattle.startup.specs.Demand.{playedFrom}
 use Rattle.startup.proofs.InStep.{judged-in-step}
-use Rattle.mornings.specs.Morning.{answer, afterCalls, steps, breaks, releases, act, morning, stepsOf, callsOf}
+use Rattle.kept.specs.Post.{afterCalls}
+use Rattle.mornings.specs.Morning.{answer, steps, breaks, releases, act, morning, stepsOf, callsOf}
 use Rattle.mornings.specs.Claims.{StateOnlyRead, BookByCalls, MorningFits, MorningInStep}
 
 pub state-only-read : StateOnlyRead

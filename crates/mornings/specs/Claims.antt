@@ -1,7 +1,7 @@
 -- Document 02, P4: what a book keeps under any calls of a single-beam post, and what a morning keeps.
 use mathlib.Core.Path.{_≡_}
 use mathlib.Core.Bool.{true}
-use mathlib.Core.List.{List, List·Memᴰ}
+use mathlib.Core.List.{List}
 use Prim.Native.Nat.{ℕ, _≤_}
 use Rattle.words.specs.declared.Refusal.the-variants.{HoldRange, BookRule}
 use Rattle.words.specs.Refusal.{numberOf}
@@ -11,20 +11,24 @@ use Rattle.rules.specs.Table.{tableFits}
 use Rattle.rules.specs.State.{stateFits, fresh}
 use Rattle.book.specs.declared.Book.{Book}
 use Rattle.book.specs.Limits.{longestHold}
-use Rattle.book.specs.Book.{entryAt, numberAt, emptyBook, bookFits}
+use Rattle.book.specs.Book.{emptyBook, bookFits}
 use Rattle.book.specs.Calls.{tailed, entered, heldRefusal, releaseRefusal, released, releaseAnswer}
 use Rattle.single_beam.specs.Break.{breakRefusal, breakAnswer}
-use Rattle.kept.specs.Conditions.{Held}
-use Rattle.kept.specs.Change.{Effect, frees, Change, Row, givenIn}
-use Rattle.kept.specs.Claims.{Young, SameCrossing, RisesFrom, EachOnce, Absent, Own}
+use Rattle.kept.specs.Claims.{Young, Absent, Own}
+use Rattle.kept.specs.Post.{EachChanges, afterCalls, CallsKeep}
 use Rattle.startup.specs.Demand.{playedFrom, InStep}
-use Rattle.mornings.specs.Morning.{Call, refusalOf, answer, afterCalls, numbersGiven, ReleasedIn, Act, Bench, morning, stepsOf, callsOf}
+use Rattle.mornings.specs.Morning.{Call, refusalOf, answer, singleBeam, Act, Bench, morning, stepsOf, callsOf}
+use Rattle.mornings.specs.Conditions.{May}
 
 -- ---- one call
 
--- each call is one of the changes of kept
+-- accepted exactly where the conditions of P4 hold
+abbrev pub AcceptedExactly : Type 0
+AcceptedExactly = (b : Book) (x : Call) → (refusalOf b x ≡ 0 → May b x) × (May b x → refusalOf b x ≡ 0)
+
+-- each call is one of the changes of kept, and frees a number exactly where it is an accepted release of it
 abbrev pub CallChanges : Type 0
-CallChanges = (b : Book) (x : Call) → (e : Effect) × Change b e (answer b x)
+CallChanges = EachChanges singleBeam
 
 -- "A refused call returns the book as it was given."
 abbrev pub RefusedKept : Type 0
@@ -48,14 +52,15 @@ AcceptedFits = (b : Book) (x : Call) → refusalOf b x ≡ 0 → bookFits (answe
 
 -- ---- calls one after the other
 
--- they are a row of changes, which gives the numbers that were given and frees only what was released
-pub record Follows (b : Book) (xs : List Call) (effects : List Effect) : Type 0 where
-  pub row : Row b effects (afterCalls b xs)
-  pub given : givenIn effects ≡ numbersGiven b xs
-  pub freed : (number : ℕ) → List·Memᴰ (frees number) effects → ReleasedIn b xs number
+-- so all that kept says of calls one after the other holds of these (CallsKeep in its specs/Post.antt): the numbers given rise from 1 and none is
+-- given twice, a number that is gone is never held again, and "Until its release no call changes an entry's head or tick."
+abbrev pub CallsKept : Type 0
+CallsKept = CallsKeep singleBeam
 
-abbrev pub CallsChange : Type 0
-CallsChange = (b : Book) (xs : List Call) → (effects : List Effect) × Follows b xs effects
+-- a number whose release was accepted is never held again, whatever calls follow
+abbrev pub ReleasedGone : Type 0
+ReleasedGone =
+    (b : Book) (number : ℕ) (xs : List Call) → releaseRefusal b number ≡ 0 → Absent (afterCalls singleBeam (releaseAnswer b number) xs) number
 
 -- what holds of a book made by calls, whatever tables, states, heads and numbers they are made with, from "a new book" with a hold of 1 to 1,000
 pub record Made (b : Book) : Type 0 where
@@ -67,31 +72,18 @@ pub record Made (b : Book) : Type 0 where
   pub own : Own b
 
 abbrev pub MadeFits : Type 0
-MadeFits = (hold : ℕ) (xs : List Call) → 1 ≤ hold → hold ≤ longestHold → Made (afterCalls (emptyBook hold) xs)
-
--- "with a number that rises from 1 and is never given twice"
-abbrev pub NumbersOnce : Type 0
-NumbersOnce = (b : Book) (xs : List Call) → RisesFrom (b .given) (numbersGiven b xs) × EachOnce (numbersGiven b xs)
-
--- a number that was given and that no place holds is never held again
-abbrev pub NumbersGone : Type 0
-NumbersGone = (b : Book) (xs : List Call) (n : ℕ) → n ≤ b .given → Absent b n → Absent (afterCalls b xs) n
-
--- "Until its release no call changes an entry's head or tick."
-abbrev pub EntryKept : Type 0
-EntryKept =
-    (b : Book) (xs : List Call) (p : ℕ) → Held b p → (ReleasedIn b xs (numberAt (b .places) p) → ⊥) →
-    SameCrossing (entryAt (b .places) p) (entryAt (afterCalls b xs .places) p)
+MadeFits = (hold : ℕ) (xs : List Call) → 1 ≤ hold → hold ≤ longestHold → Made (afterCalls singleBeam (emptyBook hold) xs)
 
 -- ---- mornings
 
--- "The book reads states and never changes them": the state is the one that the steps alone lead to
+-- "The book reads states and never changes them": the state is the one that the steps alone lead to. It holds by what `act` is; its content is that
+-- a break and a release answer a book and no state.
 abbrev pub StateOnlyRead : Type 0
 StateOnlyRead = (t : Table) (m : Bench) (xs : List Act) → morning t m xs .state ≡ playedFrom t (m .state) (stepsOf xs)
 
 -- and the book is the one that the calls alone lead to, each with the state of its moment, so all of the above holds of it
 abbrev pub BookByCalls : Type 0
-BookByCalls = (t : Table) (m : Bench) (xs : List Act) → morning t m xs .book ≡ afterCalls (m .book) (callsOf t (m .state) xs)
+BookByCalls = (t : Table) (m : Bench) (xs : List Act) → morning t m xs .book ≡ afterCalls singleBeam (m .book) (callsOf t (m .state) xs)
 
 -- "so demands 2 and 3 stand": the state meets the state rules after any morning, if it did before,
 abbrev pub MorningFits : Type 0

@@ -1,2 +1,3 @@
 pub mod Morning
+pub mod Conditions
 pub mod Claims

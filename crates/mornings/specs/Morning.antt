@@ -1,9 +1,7 @@
 -- Document 02, P4: calls on a book, one after the other, and mornings of steps and calls.
 use mathlib.Core.Path.{_≡_}
-use mathlib.Core.Bool.{cond}
 use mathlib.Core.List.{List, [], _∷_}
 use Prim.Native.Nat.{ℕ}
-use lib.Dec.{ltb}
 use Rattle.words.specs.declared.Step.{Step}
 use Rattle.rules.specs.declared.State.{State}
 use Rattle.rules.specs.declared.Table.{Table}
@@ -11,6 +9,7 @@ use Rattle.rules.specs.Judge.{judged}
 use Rattle.book.specs.declared.Book.{Book}
 use Rattle.book.specs.Calls.{releaseRefusal, releaseAnswer}
 use Rattle.single_beam.specs.Break.{breakRefusal, breakAnswer}
+use Rattle.kept.specs.Post.{Post}
 
 -- ---- calls on a book
 
@@ -28,23 +27,13 @@ unfoldable pub answer : Book → Call → Book
 answer b (break t s i) = breakAnswer t s b i
 answer b (release number) = releaseAnswer b number
 
--- the book after calls, each made on the book that the one before it answered
-unfoldable pub afterCalls : Book → List Call → Book
-afterCalls b [] = b
-afterCalls b (x ∷ xs) = afterCalls (answer b x) xs
+-- "Releasing an entry by number": the call is a release of that number, and it is accepted
+pub data Releases (b : Book) : Call → ℕ → Type 0 where
+  accepted : {number : ℕ} → releaseRefusal b number ≡ 0 → Releases b (release number) number
 
--- the numbers that calls gave: the last given after each call that raised it
-unfoldable pub withRaised : ℕ → ℕ → List ℕ → List ℕ
-withRaised before after rest = cond (ltb before after) (after ∷ rest) rest
-
-unfoldable pub numbersGiven : Book → List Call → List ℕ
-numbersGiven b [] = []
-numbersGiven b (x ∷ xs) = withRaised (b .given) (answer b x .given) (numbersGiven (answer b x) xs)
-
--- along the calls a release of that number was accepted
-pub data ReleasedIn : Book → List Call → ℕ → Type 0 where
-  now : {b : Book} {rest : List Call} {number : ℕ} → releaseRefusal b number ≡ 0 → ReleasedIn b (release number ∷ rest) number
-  later : {b : Book} {x : Call} {rest : List Call} {number : ℕ} → ReleasedIn (answer b x) rest number → ReleasedIn b (x ∷ rest) number
+-- the single-beam post, as one of the kinds of post of kept: it keeps a book and nothing beside it
+abbrev pub singleBeam : Post
+singleBeam = record { Kept = Book; bookOf = λ b. b; Call = Call; answer = answer; Frees = Releases }
 
 -- ---- a morning: the heads step, beams break and crossings are released, in any order, with one table
 

@@ -80,3 +80,22 @@ module _ (t : Table) (s : State) (b : Book) (i : ℕ) where
     pub all-fit : (r : Booked) → bookRefusal b ≡ 0 → Answers r (crossRefusal t s b i) (bookAfter b (crossed b i (s .clock)) (crossRefusal t s b i)) → Answers r (breakRefusal t s b i) (breakAnswer t s b i)
     unfolding breakAnswer
     all-fit r y a = (a .0 ∙ own-last y, a .1 ∙ ap (bookAfter b (crossed b i (s .clock))) (own-last y))
+
+-- ---- what a break comes to, and the refusal of a new entry, where it is a tail and where it is not
+
+module _ (b : Book) (i clock : ℕ) where
+  pub tail-files : isTail b i clock ≡ true → crossed b i clock ≡ tailed b i clock
+  unfolding crossed
+  tail-files e = rw e
+
+  pub new-files : isTail b i clock ≡ false → crossed b i clock ≡ entered b i clock clock
+  unfolding crossed
+  new-files e = rw e
+
+  pub tail-passes : isTail b i clock ≡ true → newRefusal b i clock ≡ 0
+  unfolding newRefusal
+  tail-passes e = rw e
+
+  pub new-asks : isTail b i clock ≡ false → newRefusal b i clock ≡ entryRefusal b
+  unfolding newRefusal
+  new-asks e = rw e
