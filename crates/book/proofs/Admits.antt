@@ -64,30 +64,35 @@ active-head t s i f e = let r = between-is 1 (t .n) i (and-true (isHead t i) (ac
 
 -- ---- 16, then 17
 
+module _ (b : Book) (clock : ℕ) where
+  pub clock-is : clockRefusal b clock ≡ 0 → b .latest ≤ clock
+  unfolding clockRefusal
+  clock-is e = leb-true _ _ (unless-is _ BeforeLastBreak e)
+
+  pub is-clock : b .latest ≤ clock → clockRefusal b clock ≡ 0
+  unfolding clockRefusal
+  is-clock l = is-unless _ BeforeLastBreak (le-leb _ _ l)
+
 module _ (t : Table) (s : State) (b : Book) (i : ℕ) where
   pub before-last : s .clock < b .latest → numberOf BeforeLastBreak ≡ admitRefusal t s b i
   unfolding admitRefusal clockRefusal
   before-last l = sym (rw (unless-not (leb (b .latest) (s .clock)) BeforeLastBreak (lt-leb _ _ l)) (first-some (numberOf BeforeLastBreak) _ (λ z. omega arith)))
 
-  in-time : b .latest ≤ s .clock → clockRefusal b (s .clock) ≡ 0
-  unfolding clockRefusal
-  in-time l = is-unless (leb (b .latest) (s .clock)) BeforeLastBreak (le-leb _ _ l)
-
   pub not-active : b .latest ≤ s .clock → (isHead t i && active (phaseOf s i)) ≡ false → numberOf NotActive ≡ admitRefusal t s b i
   unfolding admitRefusal headRefusal
-  not-active l e = sym (first-none _ _ (in-time l) ∙ first-last (unless (isHead t i && active (phaseOf s i)) NotActive) ∙ unless-not (isHead t i && active (phaseOf s i)) NotActive e)
+  not-active l e = sym (first-none _ _ (is-clock b (s .clock) l) ∙ first-last (unless (isHead t i && active (phaseOf s i)) NotActive) ∙ unless-not (isHead t i && active (phaseOf s i)) NotActive e)
 
   pub admitted : b .latest ≤ s .clock → (isHead t i && active (phaseOf s i)) ≡ true → 0 ≡ admitRefusal t s b i
   unfolding admitRefusal headRefusal
-  admitted l e = sym (first-none _ _ (in-time l) ∙ first-last (unless (isHead t i && active (phaseOf s i)) NotActive) ∙ is-unless (isHead t i && active (phaseOf s i)) NotActive e)
+  admitted l e = sym (first-none _ _ (is-clock b (s .clock) l) ∙ first-last (unless (isHead t i && active (phaseOf s i)) NotActive) ∙ is-unless (isHead t i && active (phaseOf s i)) NotActive e)
 
   -- what a break that is admitted has shown
   pub accepted-break : tableFits t ≡ true → admitRefusal t s b i ≡ 0 → (b .latest ≤ s .clock) × (1 ≤ i) × (i ≤ maxHeads)
-  unfolding admitRefusal clockRefusal headRefusal
+  unfolding admitRefusal headRefusal
   accepted-break f z =
-      let r = first-is (unless (leb (b .latest) (s .clock)) BeforeLastBreak) _ z in
+      let r = first-is (clockRefusal b (s .clock)) _ z in
       let h = active-head t s i f (unless-is (isHead t i && active (phaseOf s i)) NotActive (first-is (unless (isHead t i && active (phaseOf s i)) NotActive) [] (r .1) .0)) in
-      (leb-true _ _ (unless-is (leb (b .latest) (s .clock)) BeforeLastBreak (r .0)), h .0, h .1)
+      (clock-is b (s .clock) (r .0), h .0, h .1)
 
 -- ---- "active": in some slot, and only so
 

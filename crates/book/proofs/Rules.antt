@@ -7,8 +7,7 @@ use Prim.Native.Nat.{ℕ, zero, suc, _+_, _-_, _≤_, _<_}
 use native.Mathlib.Numerals.{add-one}
 use native.Mathlib.Omega.{arith}
 use lib.Dec.{eqb, leb}
-use lib.ListN.{length, getD, set, length-set, length-map, List·getD-map}
-use lib.Seq.{getD-set-same, getD-set-other, ext-getD}
+use lib.ListN.{length, getD, List·getD-map}
 use borrow.Author.Tests.{leb-true, le-leb, lt-leb, eq-eqb, ne-eqb}
 use Rattle.words.specs.declared.Refusal.the-variants.{HoldRange, BookRule}
 use Rattle.words.specs.Refusal.{numberOf, unless}
@@ -108,26 +107,6 @@ module _ (es : List Entry) (number : ℕ) where
   pub find-nowhere : (k : ℕ) → allPlaces ≤ k → NotYet k → 0 ≡ placeOf es number
   unfolding placeOf
   find-nowhere k m l = lowest-none allPlaces _ (λ q a b. l q a (omega arith))
-
--- ---- the numbers side by side
-
-pub record Copied (es : List Entry) (k : ℕ) (all : List ℕ) : Type 0 where
-  pub places : length all ≡ allPlaces
-  pub so-far : (j : ℕ) → j < k → getD all j 0 ≡ numberIn (getD es j noEntry)
-
-pub copied-more : (es : List Entry) (k : ℕ) (all : List ℕ) → k < allPlaces → Copied es k all → Copied es (k + 1) (set all k (numberIn (getD es k noEntry)))
-copied-more es k all l a = record {
-  places = length-set all k _ ∙ a .places;
-  so-far = λ j m. elim (same? j k) [
-    | inl e ↦ rw e (getD-set-same all k _ 0 (let p = a .places in omega arith))
-    | inr n ↦ getD-set-other all k j _ 0 n ∙ a .so-far j (omega arith)
-  ];
-}
-
-pub copied-all : (es : List Entry) (k : ℕ) (all : List ℕ) → length es ≡ allPlaces → allPlaces ≤ k → Copied es k all → all ≡ map numberIn es
-copied-all es k all w l a =
-    ext-getD 0 all (map numberIn es) (a .places ∙ sym w ∙ sym (length-map es numberIn))
-    (λ j m. a .so-far j (let p = a .places in omega arith) ∙ sym (List·getD-map numberIn es j noEntry))
 
 -- ---- whether a number stands among the first k
 

@@ -7,7 +7,7 @@ use native.Mathlib.Omega.{arith}
 use lib.Dec.{eqb}
 use lib.ListN.{length}
 use borrow.Author.Tests.{eqb-true, eqb-false, leb-true, eq-eqb, ne-eqb, le-leb, not-true}
-use Rattle.words.specs.declared.Refusal.the-variants.{HoldRange, BookRule, BeforeLastBreak, NotActive}
+use Rattle.words.specs.declared.Refusal.the-variants.{HoldRange, BookRule, NotActive}
 use Rattle.words.proofs.Order.{unless-is, is-unless}
 use Rattle.rules.specs.declared.Phase.the-variants.{Active}
 use Rattle.rules.specs.declared.State.{State}
@@ -24,7 +24,7 @@ use Rattle.book.specs.declared.Book.{Book}
 use Rattle.book.specs.Limits.{allPlaces, longestHold}
 use Rattle.book.specs.Book.{noEntry, entryAt, numberAt, lastCrossing, holdRefusal, known, isZero, repeats, entryFits, placesFit, crossingFits}
 use Rattle.book.specs.Book.{crossingsFit, bookFits, rulesRefusal}
-use Rattle.book.specs.Breaks.{clockRefusal, headRefusal}
+use Rattle.book.specs.Breaks.{headRefusal}
 use Rattle.book.proofs.Admits.{active-is, is-active}
 use Rattle.kept.specs.Conditions.{IsPlace, AnyHead, Held, BookMeets}
 use Rattle.kept.specs.Claims.{MeetsExactly}
@@ -199,14 +199,6 @@ module _ (b : Book) where
   pub are-rules : BookMeets b → rulesRefusal b ≡ 0
   unfolding rulesRefusal
   are-rules m = is-unless _ BookRule (meets-exactly b .1 m)
-
-  pub clock-is : (clock : ℕ) → clockRefusal b clock ≡ 0 → b .latest ≤ clock
-  unfolding clockRefusal
-  clock-is clock e = leb-true _ _ (unless-is _ BeforeLastBreak e)
-
-  pub is-clock : (clock : ℕ) → b .latest ≤ clock → clockRefusal b clock ≡ 0
-  unfolding clockRefusal
-  is-clock clock l = is-unless _ BeforeLastBreak (le-leb _ _ l)
 
 -- one of the table's heads, active in some slot
 abbrev pub ActiveHead : Table → State → ℕ → Type 0

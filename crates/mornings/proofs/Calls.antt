@@ -16,13 +16,14 @@ use Rattle.rules.proofs.Meaning.{table-meets, meets-table, state-meets, meets-s
 use Rattle.book.specs.declared.Book.{Book}
 use Rattle.book.specs.Calls.{isTail, entryRefusal, releaseRefusal, released, releaseAnswer}
 use Rattle.book.proofs.Filing.{after-refused, after-accepted}
+use Rattle.book.proofs.Admits.{clock-is, is-clock}
 use Rattle.single_beam.specs.Break.{newRefusal, crossRefusal, breakRefusal, crossed, breakAnswer}
 use Rattle.single_beam.proofs.Laws.{tail-files, new-files, tail-passes, new-asks}
 use Rattle.kept.specs.Conditions.{AnyHead}
 use Rattle.kept.specs.Change.{none, gives, frees, refused, a-tail, an-entry, a-release}
 use Rattle.kept.specs.Claims.{Young}
 use Rattle.kept.specs.Post.{Changes}
-use Rattle.kept.proofs.Meaning.{hold-is, is-hold, rules-are, are-rules, clock-is, is-clock, any-head, active-head-is, is-active-head}
+use Rattle.kept.proofs.Meaning.{hold-is, is-hold, rules-are, are-rules, any-head, active-head-is, is-active-head}
 use Rattle.kept.proofs.Calls.{tail-exactly, room-exactly, present-exactly}
 use Rattle.kept.proofs.Post.{none-frees, gives-frees}
 use Rattle.mornings.specs.Morning.{Call, break, release, refusalOf, answer, Releases, accepted, singleBeam}

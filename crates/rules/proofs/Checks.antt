@@ -7,8 +7,7 @@ use Prim.Native.Nat.{ℕ, zero, suc, _+_, _-_, _≤_, _<_}
 use native.Mathlib.Numerals.{add-one}
 use native.Mathlib.Omega.{arith}
 use lib.Dec.{eqb, leb}
-use lib.ListN.{length, getD, set, length-set, length-map, List·getD-map}
-use lib.Seq.{getD-set-same, getD-set-other, ext-getD}
+use lib.ListN.{length, getD}
 use borrow.Author.Tests.{leb-true, le-leb, lt-leb, eq-eqb, ne-eqb, not-true, not-false}
 use Rattle.words.specs.declared.Step.{Step}
 use Rattle.words.specs.declared.Refusal.the-variants.{TableRange, StateRule}
@@ -164,26 +163,6 @@ module _ (t : Table) (s : State) where
   pub front-calendar : s .clock ≤ ceiling → s .n ≡ t .n → calendarFits t (s .clock) (s .calendar) ≡ frontFits t s
   unfolding frontFits
   front-calendar l n = rw (le-leb _ _ l, eq-eqb _ _ n)
-
--- ---- the fresh heads, place by place
-
-pub record Asleep (t : Table) (k : ℕ) (hs : List Head) : Type 0 where
-  pub places : length hs ≡ maxHeads
-  pub so-far : (j : ℕ) → j < k → getD hs j noHead ≡ headIn Init (getD (t .wakes) j 0)
-
-pub asleep-more : (t : Table) (k : ℕ) (hs : List Head) → k < maxHeads → Asleep t k hs → Asleep t (k + 1) (set hs k (headIn Init (getD (t .wakes) k 0)))
-asleep-more t k hs l a = record {
-  places = length-set hs k _ ∙ a .places;
-  so-far = λ j m. elim (same? j k) [
-    | inl e ↦ rw e (getD-set-same hs k _ noHead (let p = a .places in omega arith))
-    | inr n ↦ getD-set-other hs k j _ noHead n ∙ a .so-far j (omega arith)
-  ];
-}
-
-pub asleep-all : (t : Table) (k : ℕ) (hs : List Head) → length (t .wakes) ≡ maxHeads → maxHeads ≤ k → Asleep t k hs → hs ≡ map (headIn Init) (t .wakes)
-asleep-all t k hs w l a =
-    ext-getD noHead hs (map (headIn Init) (t .wakes)) (a .places ∙ sym w ∙ sym (length-map (t .wakes) (headIn Init)))
-    (λ j m. a .so-far j (let p = a .places in omega arith) ∙ sym (List·getD-map (headIn Init) (t .wakes) j 0))
 
 -- ---- the verdict on a table
 

@@ -1,4 +1,5 @@
 pub mod Each
+pub mod Filled
 pub mod Meaning
 pub mod Waits
 pub mod Checks

@@ -1,20 +1,20 @@
 -- Together the parts are the step: on a table and a state that fit, what they refuse and what they make is what the rules say.
 use mathlib.Core.Path.{_≡_, refl, sym, ap, _∙_}
-use mathlib.Core.Bool.{Bool, true, false, not}
-use mathlib.Core.Logic.{_⊎_, inl, inr, ⊎-elim}
-use mathlib.Core.List.{List, [], _∷_, map}
-use Prim.Native.Nat.{ℕ, zero, suc, _+_, _-_, _≤_, _<_, min}
+use mathlib.Core.Bool.{true, false}
+use mathlib.Core.Logic.{⊎-elim}
+use mathlib.Core.List.{List, [], _∷_}
+use Prim.Native.Nat.{ℕ, zero, suc, _-_, _≤_, _<_}
 use native.Mathlib.Omega.{arith}
 use lib.Dec.{eqb}
-use lib.ListN.{length, getD, set, length-set, length-map, List·getD-map}
-use lib.Seq.{set-getD, getD-set-same, getD-set-other, ext-getD}
+use lib.ListN.{length, getD, set, List·getD-map}
+use lib.Seq.{set-getD}
 use borrow.Author.Tests.{ne-eqb, lt-leb, le-leb}
 use Rattle.words.specs.declared.Step.{Step}
 use Rattle.words.specs.declared.Step.the-variants.{Advance, Timer, Hear}
-use Rattle.words.specs.declared.Refusal.the-variants.{NoSuchStep, SomethingDue, TimerNotDue, NotHearing}
-use Rattle.words.specs.Refusal.{unless, firstOf}
+use Rattle.words.specs.declared.Refusal.the-variants.{NoSuchStep}
+use Rattle.words.specs.Refusal.{firstOf}
 use Rattle.words.specs.Pair.{headNumber}
-use Rattle.words.proofs.Order.{unless-is, unless-not, first-some, first-none, row-is}
+use Rattle.words.proofs.Order.{unless-is, unless-not, first-none, row-is}
 use Rattle.rules.specs.declared.Phase.{Phase}
 use Rattle.rules.specs.declared.Phase.the-variants.{Init, Listen, Coldstart, Active}
 use Rattle.rules.specs.declared.Head.{Head}
@@ -24,10 +24,11 @@ use Rattle.rules.specs.declared.Table.{Table}
 use Rattle.rules.specs.Limits.{maxHeads}
 use Rattle.rules.specs.Table.{isHead, tableFits}
 use Rattle.rules.specs.Calendar.{left, send}
-use Rattle.rules.specs.State.{noHead, headOf, put, timeoutOf, phaseOf, stateFits}
+use Rattle.rules.specs.State.{noHead, headOf, put, phaseOf, stateFits}
 use Rattle.rules.specs.Step.{timerDue, due, leastTimeout, nextInstant, timerHead, timerFrame, sends, hearHead, advance, timer, hear, moved}
 use Rattle.rules.specs.Judge.{nameRefusal, dueRefusal, lastRefusal, stepRefusal, stateAfter}
-use Rattle.rules.proofs.Each.{same?, less?, either?, is-between, no-both}
+use Rattle.rules.proofs.Filled.{Filled, filled-all}
+use Rattle.rules.proofs.Each.{less?, either?, is-between, no-both}
 use Rattle.rules.proofs.Meaning.{head-is, table-meets, state-meets}
 use Rattle.rules.proofs.Checks.{head-at}
 use Rattle.rules.proofs.Moves.{due-is-now}
@@ -89,22 +90,12 @@ instant-is t s = rw (least-is s (t .n))
 
 -- ---- the timeouts, place by place
 
-pub record Copied (hs : List Head) (k : ℕ) (es : List ℕ) : Type 0 where
-  pub places : length es ≡ maxHeads
-  pub so-far : (j : ℕ) → j < k → getD es j 0 ≡ getD hs j noHead .timeout
+abbrev pub timeoutIn : Head → ℕ
+timeoutIn h = h .timeout
 
-pub copied-more : (hs : List Head) (k : ℕ) (es : List ℕ) → k < maxHeads → Copied hs k es → Copied hs (k + 1) (set es k (getD hs k noHead .timeout))
-copied-more hs k es l a = record {
-  places = length-set es k _ ∙ a .places;
-  so-far = λ j m. ⊎-elim
-      (λ e. rw e (getD-set-same es k _ 0 (let p = a .places in omega arith)))
-      (λ n. getD-set-other es k j _ 0 n ∙ a .so-far j (omega arith))
-      (same? j k);
-}
-
-pub copied-all : (hs : List Head) (k : ℕ) (es : List ℕ) → length hs ≡ maxHeads → maxHeads ≤ k → Copied hs k es → es ≡ timeouts hs
+pub timeouts-all : (hs : List Head) (k : ℕ) (es : List ℕ) → length hs ≡ maxHeads → maxHeads ≤ k → Filled timeoutIn noHead hs maxHeads k es → es ≡ timeouts hs
 unfolding timeouts
-copied-all hs k es w l a = ext-getD 0 es (timeouts hs) (a .places ∙ sym (length-map hs (λ (h : Head). h .timeout) ∙ w)) (λ j m. a .so-far j (let p = a .places in omega arith) ∙ sym (timeout-at hs j))
+timeouts-all hs k es w l a = filled-all timeoutIn noHead hs maxHeads k es w l a
 
 -- ---- a step on a table and a state that fit, by its place, the clock after it, and the parts it reads
 

@@ -1,75 +1,12 @@
-// What is in a book: when two books are the same, where a number stands, and what of a book is told.
+// What is in a book: how many places are held, where a number stands, and what of a book is told.
 use crate::print::answer;
 use crate::print::field;
 use crate::print::text;
+use crate::same::same_book;
 use book::Book;
 use book::Booked;
-use book::Crossing;
 use book::Entry;
-use rules::State;
 ghost use Prim.Native.Nat.{_<_};
-
-fn same_entry(a: Entry, b: Entry) -> bool {
-    if a.number != b.number {
-        return false;
-    }
-    if a.tick != b.tick {
-        return false;
-    }
-    if a.head != b.head {
-        return false;
-    }
-    a.tails == b.tails
-}
-
-fn same_places(a: [Entry; 256], b: [Entry; 256]) -> bool {
-    let mut k: usize = 0;
-    while k < Book::PLACES {
-        if !same_entry(a[k], b[k]) {
-            return false;
-        }
-        k += 1;
-    }
-    true
-}
-
-fn same_crossing(a: Crossing, b: Crossing) -> bool {
-    if a.number != b.number {
-        return false;
-    }
-    a.tick == b.tick
-}
-
-fn same_crossings(a: [Crossing; 64], b: [Crossing; 64]) -> bool {
-    let mut k: usize = 0;
-    while k < State::MAX_HEADS {
-        if !same_crossing(a[k], b[k]) {
-            return false;
-        }
-        k += 1;
-    }
-    true
-}
-
-fn same_book(a: Book, b: Book) -> bool {
-    if a.hold != b.hold {
-        return false;
-    }
-    if a.given != b.given {
-        return false;
-    }
-    if a.latest != b.latest {
-        return false;
-    }
-    let c = a.remembered;
-    let d = b.remembered;
-    if !same_crossings(c, d) {
-        return false;
-    }
-    let e = a.places;
-    let f = b.places;
-    same_places(e, f)
-}
 
 // How many places are held.
 fn held(places: [Entry; 256]) -> usize {

@@ -2,13 +2,14 @@ use mathlib.Core.Path.{refl}
 use Prim.Native.Nat.{_-_, _≤_}
 use native.Mathlib.Omega.{arith}
 use Rattle.book.specs.Limits.{allPlaces}
-use Rattle.book.proofs.Rules.{Copied, copied-more, copied-all}
+use Rattle.book.specs.Book.{noEntry, numberIn}
+use Rattle.rules.proofs.Filled.{Filled, filled-more, filled-all}
 use borrow.Author.Needs.{needs}
 use Rattle.book.proofs.places.numbers.Statement.{statement}
 use Rattle.book.proofs.places.numbers.Tie as tie
 
 abbrev Inv-loop : tie.InvT-loop
-Inv-loop es all₀ k₀ all k = (k ≤ allPlaces) × Copied es k all
+Inv-loop es all₀ k₀ all k = (k ≤ allPlaces) × Filled numberIn noEntry es allPlaces k all
 
 abbrev μ-loop : tie.MeasureT-loop
 μ-loop es all₀ k₀ all k = allPlaces - k
@@ -35,10 +36,10 @@ loop-less : tie.Need-loop-less Inv-loop μ-loop
 loop-less c = search needs
 
 loop-again : tie.Need-loop-again Inv-loop μ-loop
-loop-again c = (search needs, copied-more _ _ _ (search needs) ((c .before .before .loop) .inv .1))
+loop-again c = (search needs, filled-more numberIn noEntry _ _ _ _ (search needs) ((c .before .before .loop) .inv .1))
 
 returns : tie.Need-returns Inv-loop μ-loop
-returns c = copied-all _ _ _ (search needs) (search needs) ((c .before .loop) .inv .1)
+returns c = filled-all numberIn noEntry _ _ _ _ (search needs) (search needs) ((c .before .loop) .inv .1)
 
 pub numbers-spec : {M : Type 1} → statement M
 numbers-spec =

@@ -3,12 +3,14 @@ use mathlib.Core.Path.{refl}
 use native.Mathlib.Omega.{arith}
 use Prim.Native.Nat.{_-_, _≤_}
 use Rattle.rules.specs.Limits.{maxHeads}
-use Rattle.rules.proofs.Checks.{Asleep, asleep-more, asleep-all}
+use Rattle.rules.specs.State.{headIn}
+use Rattle.rules.specs.declared.Phase.the-variants.{Init}
+use Rattle.rules.proofs.Filled.{Filled, filled-more, filled-all}
 use Rattle.rules.proofs.states.asleep.Statement.{statement}
 use Rattle.rules.proofs.states.asleep.Tie as tie
 
 abbrev Inv-loop : tie.InvT-loop
-Inv-loop t hs₀ k₀ hs k = (k ≤ maxHeads) × Asleep t k hs
+Inv-loop t hs₀ k₀ hs k = (k ≤ maxHeads) × Filled (headIn Init) 0 (t .wakes) maxHeads k hs
 
 abbrev μ-loop : tie.MeasureT-loop
 μ-loop t hs₀ k₀ hs k = maxHeads - k
@@ -35,10 +37,10 @@ loop-less : tie.Need-loop-less Inv-loop μ-loop
 loop-less c = search needs
 
 loop-again : tie.Need-loop-again Inv-loop μ-loop
-loop-again c = (search needs, asleep-more _ _ _ (search needs) (c .before .before .loop .inv .1))
+loop-again c = (search needs, filled-more (headIn Init) 0 _ _ _ _ (search needs) (c .before .before .loop .inv .1))
 
 returns : tie.Need-returns Inv-loop μ-loop
-returns c = asleep-all _ _ _ (search needs) (search needs) (c .before .loop .inv .1)
+returns c = filled-all (headIn Init) 0 _ _ _ _ (search needs) (search needs) (c .before .loop .inv .1)
 
 pub asleep-spec : {M : Type 1} → statement M
 asleep-spec =

@@ -4,12 +4,14 @@ use native.Mathlib.Omega.{arith}
 use Prim.Native.Nat.{_-_, _≤_}
 use borrow.Author.Needs.{needs}
 use Rattle.rules.specs.Limits.{maxHeads}
-use Rattle.steps.proofs.Parts.{Copied, copied-more, copied-all}
+use Rattle.rules.specs.State.{noHead}
+use Rattle.rules.proofs.Filled.{Filled, filled-more}
+use Rattle.steps.proofs.Parts.{timeoutIn, timeouts-all}
 use Rattle.steps.proofs.places.timeouts.Statement.{statement}
 use Rattle.steps.proofs.places.timeouts.Tie as tie
 
 abbrev Inv-loop : tie.InvT-loop
-Inv-loop s all₀ k₀ all k = (k ≤ maxHeads) × Copied (s .heads) k all
+Inv-loop s all₀ k₀ all k = (k ≤ maxHeads) × Filled timeoutIn noHead (s .heads) maxHeads k all
 
 abbrev μ-loop : tie.MeasureT-loop
 μ-loop s all₀ k₀ all k = maxHeads - k
@@ -36,10 +38,10 @@ loop-less : tie.Need-loop-less Inv-loop μ-loop
 loop-less c = search needs
 
 loop-again : tie.Need-loop-again Inv-loop μ-loop
-loop-again c = (search needs, copied-more _ _ _ (search needs) ((c .before .loop) .inv .1))
+loop-again c = (search needs, filled-more timeoutIn noHead _ _ _ _ (search needs) ((c .before .loop) .inv .1))
 
 returns : tie.Need-returns Inv-loop μ-loop
-returns c = copied-all _ _ _ (state-places (c .before .before .args .t1) _ (c .before .before .good .0)) (search needs) ((c .before .loop) .inv .1)
+returns c = timeouts-all _ _ _ (state-places (c .before .before .args .t1) _ (c .before .before .good .0)) (search needs) ((c .before .loop) .inv .1)
 
 pub timeouts-spec : {M : Type 1} → statement M
 timeouts-spec =

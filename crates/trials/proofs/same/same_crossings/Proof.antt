@@ -1,7 +1,7 @@
 use borrow.Author.Needs.{needs}
 use Prim.Native.Nat.{_≤_, _-_}
-use Rattle.trials.proofs.pages.same_crossings.Statement.{statement}
-use Rattle.trials.proofs.pages.same_crossings.Tie as tie
+use Rattle.trials.proofs.same.same_crossings.Statement.{statement}
+use Rattle.trials.proofs.same.same_crossings.Tie as tie
 
 abbrev Inv-loop : tie.InvT-loop
 Inv-loop a b k₀ k = k ≤ 64
