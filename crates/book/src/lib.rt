@@ -1,6 +1,8 @@
 // A book of crossings, whatever kind of post they come from: its places and numbers, what each head's last crossing was, which breaks
 // it admits, tails filed in the entry that holds the crossing, release. What makes a crossing is for the crate of a post (single_beam).
 // It uses words and rules.
+#![tactic(auto)]
+
 mod answers;
 mod breaks;
 mod calls;
@@ -11,7 +13,7 @@ use words::Verdict;
 
 // A held crossing: its number, its tick, whose it is (a head, or what a post goes by), and how many tails were filed in it. A free place
 // is all zero.
-#[derive(Drop)]
+#[derive(Clone, Copy)]
 pub struct Entry {
     pub number: u32,
     pub tick: u32,
@@ -20,7 +22,7 @@ pub struct Entry {
 }
 
 // A head's last entered crossing, released or not. Number 0 remembers none.
-#[derive(Drop)]
+#[derive(Clone, Copy)]
 pub struct Crossing {
     pub number: u32,
     pub tick: u32,
@@ -28,7 +30,7 @@ pub struct Crossing {
 
 // The hold H in ticks, the last number given, the clock of the last break, what each head's last crossing was, and 256 places, of which
 // those with number 0 are free.
-#[derive(Drop)]
+#[derive(Clone, Copy)]
 pub struct Book {
     pub hold: u16,
     pub given: u32,
@@ -38,7 +40,7 @@ pub struct Book {
 }
 
 // A verdict beside a book: the next or the new one where it accepts.
-#[derive(Drop)]
+#[derive(Clone, Copy)]
 pub struct Booked {
     pub verdict: Verdict,
     pub book: Book,

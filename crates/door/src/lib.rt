@@ -1,6 +1,8 @@
 // The door for C and Rust: a few functions on numbers and byte slices, each from a table image and, all but one, a state image. They
 // read the images once, do what the crates below do on records that fit, and write a state's image or the step list into lent room; the
 // header vapourtrack.h tells a caller the rest. It uses words, rules, table_images, state_images, steps and runs; its proofs use octets.
+#![tactic(auto)]
+
 ghost use Rattle.std.specs.Prelude.{◌≡◌, ◌≤◌};
 ghost use Rattle.words.specs.Refusal.{verdict_number};
 ghost use Rattle.rules.specs.Limits.{max_heads};
@@ -19,7 +21,7 @@ use words::{Step, Verdict};
 const COUNT_PLACES: u64 = 72057594037927936;
 
 // What the two images of a call hold.
-#[derive(Drop)]
+#[derive(Clone, Copy)]
 struct Opened {
     verdict: Verdict,
     table: Table,

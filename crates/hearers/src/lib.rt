@@ -1,5 +1,7 @@
 // A set of heads, kept as the bits of one number: head 1 in the lowest bit. The calendar's hearers are such a set. This crate is
 // the only one that looks at bits; it uses no other crate, and all above it speak of heads by their numbers, 1 to 64.
+#![tactic(auto)]
+
 ghost use Rattle.std.specs.Prelude.{◌≡◌, ◌≤◌, eqb, leb};
 ghost use Rattle.std.specs.Int.Count.{ones};
 ghost use Rattle.hearers.specs.Set.{has, alone, without, everyone, all_but};

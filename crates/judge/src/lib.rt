@@ -1,5 +1,7 @@
 // A proposed step judged, for anybody: any table, any state, any step, given as the enum or as its two bytes. The record checks of
 // rules come first, then steps attempts the step; nothing is decided here. It uses words, rules and steps.
+#![tactic(auto)]
+
 ghost use Rattle.std.specs.Prelude.{◌≡◌};
 ghost use Rattle.words.specs.Refusal.{verdict_number};
 ghost use Rattle.words.specs.Pair.{step_of};

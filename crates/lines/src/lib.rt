@@ -1,6 +1,8 @@
 // The lines of the walk listing of document 01, in bytes: a line for an accepted step and the END line, put into room that the
 // caller lends, whole or not at all. What a line holds is said in specs/, byte by byte. It uses the types and definitions of
 // words and rules, and no input or output.
+#![tactic(auto)]
+
 ghost use Rattle.std.specs.Prelude.{◌≡◌, [], ◌∷◌, ◌++◌, ◌+◌, ◌≤◌, ◌<◌, length};
 ghost use Rattle.rules.specs.State.{no_head, head_of};
 ghost use Rattle.lines.specs.Decimal.{decimal};

@@ -1,6 +1,8 @@
 // Numbers in bytes, least byte first, at any width up to eight bytes, and what both images begin with: what the crates of the table
 // image and of the state image have in common, and in proofs/ that such bytes tell their numbers and numbers their bytes. It uses
 // words and rules, for the number of places and for what a reader or a writer answers.
+#![tactic(auto)]
+
 ghost use Rattle.std.specs.Prelude.{◌≡◌, ◌+◌, ◌≤◌, ◌<◌, ◌^◌, length};
 ghost use Rattle.octets.specs.Bytes.{bytes_of, number_at};
 ghost use Rattle.octets.specs.Room.{stored};

@@ -1,6 +1,8 @@
 // What document 01 speaks of: tables and states as types, and in specs/ every definition over them, from the limits to the judged
 // step. Code here is only what belongs to a kind itself: the limits, the two record checks, the fresh state, the waits, a phase's
 // two numbers. It uses words and hearers; everything else in the repository stands on it.
+#![tactic(auto)]
+
 mod calendars;
 mod phases;
 mod states;
@@ -9,7 +11,7 @@ mod tables;
 use words::Verdict;
 
 // A head table: N heads, slots of S ticks, propagation P, and a wake tick for each head; wake places above N are zero.
-#[derive(Drop)]
+#[derive(Clone, Copy)]
 pub struct Table {
     pub n: u8,
     pub s: u16,
@@ -19,7 +21,7 @@ pub struct Table {
 
 // The one frame on the cable: who has still to hear it, its kind (1 coldstart frame, 2 i-frame), origin, sent and delivery tick.
 // With no hearer all of it is zero.
-#[derive(Drop)]
+#[derive(Clone, Copy)]
 pub struct Calendar {
     pub hearers: u64,
     pub kind: u8,
@@ -29,7 +31,7 @@ pub struct Calendar {
 }
 
 // An active head carries its slot; no other phase has one.
-#[derive(Drop)]
+#[derive(Clone, Copy)]
 pub enum Phase {
     Init,
     Listen,
@@ -37,14 +39,14 @@ pub enum Phase {
     Active(u8),
 }
 
-#[derive(Drop)]
+#[derive(Clone, Copy)]
 pub struct Head {
     pub phase: Phase,
     pub timeout: u32,
 }
 
 // Sixty-four head places, of which the first n are used; the others are zero.
-#[derive(Drop)]
+#[derive(Clone, Copy)]
 pub struct State {
     pub clock: u32,
     pub n: u8,
@@ -53,14 +55,14 @@ pub struct State {
 }
 
 // A verdict beside a state: the next, the fresh or the read state where it accepts.
-#[derive(Drop)]
+#[derive(Clone, Copy)]
 pub struct Judged {
     pub verdict: Verdict,
     pub state: State,
 }
 
 // What a writer into lent room answers: how many bytes it wrote, 0 where it refuses.
-#[derive(Drop)]
+#[derive(Clone, Copy)]
 pub struct Written {
     pub verdict: Verdict,
     pub bytes: usize,

@@ -2,6 +2,8 @@
 // its table and its state once, by rules, and then only steps; the one beside it that ends in _fit is for records that are known to
 // fit, and checks nothing. It uses words, hearers, rules and steps, and the theorems of exact: that an accepted step keeps the state
 // rules is why nothing is checked again on the way.
+#![tactic(auto)]
+
 ghost use Rattle.std.specs.Prelude.{◌≡◌};
 ghost use Rattle.words.specs.Refusal.{verdict_number};
 ghost use Rattle.runs.specs.Run.{stopped, told};
@@ -19,7 +21,7 @@ pub use listing::{open_steps, open_steps_fit};
 pub use policy::{run_policy, run_policy_fit};
 
 // What a run answers: the state it came to, how many steps were accepted, and what stopped it.
-#[derive(Drop)]
+#[derive(Clone, Copy)]
 pub struct Ran {
     pub state: State,
     pub accepted: usize,

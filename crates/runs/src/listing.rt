@@ -16,7 +16,7 @@ use words::{Refusal, Step, Verdict};
 
 // Steps in bytes, gathered before any is written to the room: the first used bytes hold them. Sixty-four heads have at most two steps
 // each, of two bytes.
-#[derive(Drop)]
+#[derive(Clone, Copy)]
 struct Pairs {
     bytes: [u8; 256],
     used: usize,

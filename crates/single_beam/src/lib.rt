@@ -1,6 +1,8 @@
 // The single-beam post: chest and tail break the same light, so a break soon after a crossing is filed in that crossing's entry instead
 // of overwriting its time. A break is judged against a table, a state and a book; the state is read and never changed. It uses words,
 // rules for the state check, and book for all that does not depend on the kind of post.
+#![tactic(auto)]
+
 ghost use Rattle.std.specs.Prelude.{◌≡◌, true, ◌≤◌};
 ghost use Rattle.rules.specs.Limits.{max_heads};
 ghost use Rattle.rules.specs.Table.{table_fits};

@@ -1,6 +1,8 @@
 // A state as bytes, and back, against its table. The image and what reads as one are definitions in specs/, in document 01's own
 // order; the code here first takes the fields and then has the state rules tested, and proofs/ shows that nothing is lost and that
 // nothing else is taken for an image. It uses octets, words and rules; its proofs use hearers.
+#![tactic(auto)]
+
 ghost use Rattle.std.specs.Prelude.{◌≡◌, ◌+◌, ◌≤◌, length, true};
 ghost use Rattle.words.specs.Refusal.{verdict_number, number_of};
 ghost use Rattle.rules.specs.Each.{every};

@@ -2,6 +2,8 @@
 // head that it names, and a proposed step attempted on a whole state. Nothing here looks at the record rules again, so a run can
 // check its table and state once and then step, and the parts let it do so in place. It uses words, hearers and rules; judge puts
 // the record checks in front of it for everybody else.
+#![tactic(auto)]
+
 ghost use Rattle.std.specs.Prelude.{◌≡◌, true, ◌≤◌};
 ghost use Rattle.rules.specs.Limits.{max_heads};
 ghost use Rattle.words.specs.Refusal.{verdict_number};

@@ -1,6 +1,8 @@
 // A table as bytes, and back. The image and what reads as one are definitions in specs/, in document 01's own order; the code here
 // reads and writes it, and proofs/ shows that nothing is lost and that nothing else is taken for an image. It uses octets, words and
 // rules.
+#![tactic(auto)]
+
 ghost use Rattle.std.specs.Prelude.{◌≡◌, ◌≤◌, length};
 ghost use Rattle.words.specs.Refusal.{verdict_number, number_of};
 ghost use Rattle.rules.specs.Limits.{max_heads};
@@ -29,7 +31,7 @@ const FRONT: usize = 10;
 const WAKE: usize = 4;
 
 // What reading a table image answers: the table where it accepts, otherwise an all-zero record.
-#[derive(Drop)]
+#[derive(Clone, Copy)]
 pub struct TableRead {
     pub verdict: Verdict,
     pub table: Table,

@@ -3,6 +3,8 @@
 // from the documents, is the file stdout, to which a check holds what is printed. A line's first letter says what is tried, its numbers
 // what with; any other line is only printed. It tries what rules, judge, the two crates of images, runs, book and single_beam offer to
 // everyone and judges nothing itself; words has the steps and the verdicts, io and libc are for the two channels.
+#![tactic(auto)]
+
 mod books;
 mod letters;
 mod pages;

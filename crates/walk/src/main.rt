@@ -2,6 +2,8 @@
 // listing is, is said in specs/; opening reads the input's table part, pieces makes the listing's bytes, and only this file reads
 // and writes. It judges nothing itself: it uses words, rules, judge, table_images and lines, octets and hearers in its
 // proofs, and io and libc for the two channels.
+#![tactic(auto)]
+
 mod opening;
 mod pieces;
 
@@ -16,7 +18,7 @@ use rules::{State, Table};
 
 // Where a listing stands, before a step or its END line: the table and the state, the table's refusal or 0, the steps accepted so
 // far, and where in the input the next pair begins. The rest of the listing follows from it and the input.
-#[derive(Drop)]
+#[derive(Clone, Copy)]
 pub struct Place {
     pub table: Table,
     pub state: State,
@@ -27,7 +29,7 @@ pub struct Place {
 
 // A piece of the listing: how many bytes it has in the room, the place after it, and whether it holds the END line, after which
 // nothing follows.
-#[derive(Drop)]
+#[derive(Clone, Copy)]
 pub struct Piece {
     pub bytes: usize,
     pub place: Place,

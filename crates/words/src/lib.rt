@@ -1,9 +1,11 @@
 // The words every layer speaks: a proposed step, a refusal, a verdict, each with its number in documents 01 and 02. It uses nothing.
+#![tactic(auto)]
+
 mod pairs;
 mod refusals;
 
 // A proposed step.
-#[derive(Drop)]
+#[derive(Clone, Copy)]
 pub enum Step {
     Advance,
     Timer(u8),
@@ -11,7 +13,7 @@ pub enum Step {
 }
 
 // Why something is refused: one case for each number of document 01 and of the requests of 02 that have landed.
-#[derive(Drop)]
+#[derive(Clone, Copy)]
 pub enum Refusal {
     TableLength,
     TableMark,
@@ -35,7 +37,7 @@ pub enum Refusal {
     BookRule,
 }
 
-#[derive(Drop)]
+#[derive(Clone, Copy)]
 pub enum Verdict {
     Accepted,
     Refused(Refusal),

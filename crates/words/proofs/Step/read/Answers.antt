@@ -3,8 +3,7 @@ use Prim.Native.Nat.{ℕ, zero, suc}
 use borrow.Author.Rules.{rules}
 use Rattle.words.specs.declared.Step.TheVariants.{Timer}
 use Rattle.words.specs.Pair.{step_of}
-use Rattle.words.proofs.Step.read.Statement.{statement}
-use Rattle.words.proofs.Step.read.Tie as tie
+use Rattle.words.proofs.Step.read.Goals as goal
 
 -- a pair that names no step
 no_step : (kind i : ℕ) → (kind ≡ 1 → ⊥) → (kind ≡ 2 → ⊥) → (kind ≡ 0 → i ≡ 0 → ⊥) → Timer 0 ≡ step_of kind i
@@ -15,23 +14,20 @@ no_step (suc zero) i a b f = absurd (a refl)
 no_step (suc (suc zero)) i a b f = absurd (b refl)
 no_step (suc (suc (suc kind))) i a b f = refl
 
-returns : tie.Need-returns
+pub returns-then-kind-eq1 : goal.returns-then-kind-eq1
 unfolding step_of
-returns c = rw c.if1.true
+returns-then-kind-eq1 c = rw c.if-kind-eq1.true
 
-returns-2 : tie.Need-returns-2
+pub returns-then-kind-eq2 : goal.returns-then-kind-eq2
 unfolding step_of
-returns-2 c = rw c.if2.true
+returns-then-kind-eq2 c = rw c.if-kind-eq2.true
 
-returns-3 : tie.Need-returns-3
+pub returns-then-i-eq0 : goal.returns-then-i-eq0
 unfolding step_of
-returns-3 c = rw (c.before.if3.true, c.if4.true)
+returns-then-i-eq0 c = rw (c.if-kind-eq0.true, c.if-i-eq0.true)
 
-returns-4 : tie.Need-returns-4
-returns-4 c = no_step _ _ (search rules) (search rules) (λ e. c.if4.false)
+pub returns-else-i-eq0 : goal.returns-else-i-eq0
+returns-else-i-eq0 c = no_step _ _ (search rules) (search rules) (λ e. c.if-i-eq0.false)
 
-returns-5 : tie.Need-returns-5
-returns-5 c = no_step _ _ (search rules) (search rules) (λ e. absurd (c.if3.false e))
-
-pub read_spec : {M : Type 1} → statement M
-read_spec = tie.close (tie.spec returns returns-2 returns-3 returns-4 returns-5)
+pub returns-else-kind-eq0 : goal.returns-else-kind-eq0
+returns-else-kind-eq0 c = no_step _ _ (search rules) (search rules) (λ e. absurd (c.if-kind-eq0.false e))

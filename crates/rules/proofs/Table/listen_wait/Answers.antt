@@ -1,0 +1,14 @@
+use native.Mathlib.Omega.{arith}
+use Rattle.rules.proofs.Waits.{round_le, offset_le}
+use Rattle.rules.specs.State.{listen_wait}
+use Rattle.rules.proofs.Table.listen_wait.Goals as goal
+
+pub overflow_mul-result : goal.overflow_mul-result
+overflow_mul-result c = let t = c.args.self in omega (arith, c.round.ensures, round_le t (omega arith) (omega arith))
+
+pub overflow_add-result : goal.overflow_add-result
+overflow_add-result c = let a = c.args in omega (arith, c.round.ensures, c.offset.ensures, round_le a.self (omega arith) (omega arith), offset_le a.self a.i (omega arith) (omega arith))
+
+pub returns : goal.returns
+unfolding listen_wait
+returns c = omega (arith, c.round.ensures, c.offset.ensures)
