@@ -24,19 +24,16 @@ use Rattle.rules.specs.declared.Calendar.{Calendar}
 use Rattle.rules.specs.Judge.{step_refusal, record_refusal, refusal}
 use Rattle.rules.specs.Table.{is_head, wake_of, numbers_fit, wake_fits, table_fits, table_refusal}
 use Rattle.rules.specs.Calendar.{empty_calendar, calendar_fits}
-use types.Run.{OneOf}
-use denote.Enum.Declared.{tag_of}
-use Rattle.rules.specs.contracts.Phase.{the_type}
 use Rattle.rules.specs.State.{head_in, no_head, head_of, phase_number, is_zero, listen_wait, coldstart_wait, phase_fits, head_fits, place_fits, front_fits, state_fits, state_refusal, blank, fresh, fresh_or_blank}
 use Rattle.rules.proofs.Each.{same_or_not, both, and_true, either_or_not, no, not_both, every_more, every_fails}
 use Rattle.rules.proofs.Meaning.{table_meets, meet_numbers}
 
 -- the flag of a test that is negated
-pub flag_no : (r x : Bool) → r ≡ x → not r ≡ true → x ≡ false
-flag_no r x e n = sym e ∙ not-true r n
+pub flag_no : (r x : Bool) → r ≡ x → r ≡ false → x ≡ false
+flag_no r x e n = sym e ∙ n
 
-pub flag_yes : (r x : Bool) → r ≡ x → not r ≡ false → x ≡ true
-flag_yes r x e n = sym e ∙ not-false r n
+pub flag_yes : (r x : Bool) → r ≡ x → r ≡ true → x ≡ true
+flag_yes r x e n = sym e ∙ n
 
 -- ---- places, by the index that the code has
 
@@ -88,10 +85,8 @@ and_no_2 false b = refl
 
 -- ---- one head
 
-waking : (p : Phase) → OneOf (1 ∷ 2 ∷ 3 ∷ []) (tag_of the_type p) → phase_number p ≡ 0 → ⊥
-waking Init (inl e) z = omega arith
-waking Init (inr (inl e)) z = omega arith
-waking Init (inr (inr e)) z = omega arith
+waking : (p : Phase) → (p ≡ Init → ⊥) → phase_number p ≡ 0 → ⊥
+waking Init h z = h refl
 waking Listen h z = omega arith
 waking Coldstart h z = omega arith
 waking (Active k) h z = omega arith
@@ -100,7 +95,7 @@ pub zero_init : (h : Head) → h.phase ≡ Init → eqb h.timeout 0 ≡ is_zero 
 unfolding is_zero
 zero_init h p = rw p
 
-pub zero_waking : (h : Head) → OneOf (1 ∷ 2 ∷ 3 ∷ []) (tag_of the_type h.phase) → false ≡ is_zero h
+pub zero_waking : (h : Head) → (h.phase ≡ Init → ⊥) → false ≡ is_zero h
 unfolding is_zero
 zero_waking h o = rw (ne_eqb _ _ (waking h.phase o))
 

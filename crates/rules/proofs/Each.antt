@@ -13,10 +13,10 @@ use Rattle.rules.specs.Each.{between, every, some}
 -- ---- the two cases of a comparison
 
 pub same_or_not : (j i : ℕ) → (j ≡ i) ⊎ (j ≡ i → ⊥)
-same_or_not j i = elim (ℕ_discrete j i) [ yes e ↦ inl e | no n ↦ inr n ]
+same_or_not j i = elim (ℕ_discrete j i) [ yes e ↦ inl e | Prim.no n ↦ inr n ]
 
 pub less_or_not : (j i : ℕ) → (j < i) ⊎ (i ≤ j)
-less_or_not j i = elim (dec_lt j i) [ yes e ↦ inl e | no n ↦ inr (omega arith) ]
+less_or_not j i = elim (dec_lt j i) [ yes e ↦ inl e | Prim.no n ↦ inr (omega arith) ]
 
 -- ---- tests joined by "and" and "or"
 

@@ -15,7 +15,7 @@ use Rattle.rules.specs.contracts.Table as table
 use Rattle.rules.specs.contracts.Head.{the_field}
 
 pub state_places : (s : State) (vs : List Val) → Is (row state.the_type) s vs → length s.heads ≡ max_heads
-state_places s vs p = sym (length-map s.heads the_field.into) ∙ p.1.1.1.1.1.0.1.0.1
+state_places s vs p = p.1.1.1.1.1.0.1.0.1
 
 pub table_places : (t : Table) (vs : List Val) → Is (row table.the_type) t vs → length t.wakes ≡ max_heads
-table_places t vs p = length_unmapped ℕ t.wakes max_heads p.1.1.1.1.1.0.1.0.1
+table_places t vs p = p.1.1.1.1.1.0.1.0.1

@@ -10,4 +10,4 @@ pub heads_fit-requires : goal.heads_fit-requires
 heads_fit-requires c = (c.requires, front_clock _ _ (flag_yes _ _ c.front_fits.ensures c.if-not-front_fits.false))
 
 pub returns : goal.returns
-returns c = c.heads_fit.ensures ∙ state_heads _ _ (state_places c.args.self _ c.well-formed.0) (flag_yes _ _ c.front_fits.ensures c.if-not-front_fits.false)
+returns c = c.heads_fit.ensures ∙ state_heads _ _ (state_places c.args.self _ c.well_formed.0) (flag_yes _ _ c.front_fits.ensures c.if-not-front_fits.false)

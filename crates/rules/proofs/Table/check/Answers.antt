@@ -9,4 +9,4 @@ pub returns-then-not-wakes_fit : goal.returns-then-not-wakes_fit
 returns-then-not-wakes_fit c = table_refused _ (table_no_wakes _ (flag_no _ _ c.wakes_fit.ensures c.if-not-wakes_fit.true))
 
 pub returns : goal.returns
-returns c = table_accepted _ (table_yes _ (table_places c.args.self _ c.well-formed.0) (flag_yes _ _ c.numbers_fit.ensures c.if-not-numbers_fit.false) (flag_yes _ _ c.wakes_fit.ensures c.if-not-wakes_fit.false))
+returns c = table_accepted _ (table_yes _ (table_places c.args.self _ c.well_formed.0) (flag_yes _ _ c.numbers_fit.ensures c.if-not-numbers_fit.false) (flag_yes _ _ c.wakes_fit.ensures c.if-not-wakes_fit.false))

@@ -17,10 +17,10 @@ pub place_fits-requires : goal.place_fits-requires
 place_fits-requires c = (c.requires.0, wake_after _ _, search rules, search rules, search rules)
 
 pub returns-then-not-place_fits : goal.returns-then-not-place_fits
-returns-then-not-place_fits c = heads_fail _ _ _ _ _ c.place_fits.ensures (search rules) (not-true _ c.if-not-place_fits.true)
+returns-then-not-place_fits c = heads_fail _ _ _ _ _ c.place_fits.ensures (search rules) c.if-not-place_fits.true
 
 pub loop-k-preserved : goal.loop-k-preserved
-loop-k-preserved c = (search rules, heads_more _ _ _ _ _ c.place_fits.ensures c.loop-k.invariant.1 (not-false _ c.if-not-place_fits.false))
+loop-k-preserved c = (search rules, heads_more _ _ _ _ _ c.place_fits.ensures c.loop-k.invariant.1 c.if-not-place_fits.false)
 
 pub returns : goal.returns
 returns c = every_done _ _ _ c.loop-k.invariant.1 (search rules) (search rules)

@@ -6,4 +6,4 @@ pub returns-in-Init : goal.returns-in-Init
 returns-in-Init c = zero_init _ (search rules)
 
 pub returns-in_default : goal.returns-in_default
-returns-in_default c = zero_waking _ c.in_default.keys2
+returns-in_default c = zero_waking _ c.in_default.not-Init

@@ -14,10 +14,10 @@ unfolding every
 loop-k-init c = (search rules, refl)
 
 pub returns-then-not-wake_fits : goal.returns-then-not-wake_fits
-returns-then-not-wake_fits c = wakes_fail _ _ _ c.wake_fits.ensures (search rules) (not-true _ c.if-not-wake_fits.true)
+returns-then-not-wake_fits c = wakes_fail _ _ _ c.wake_fits.ensures (search rules) c.if-not-wake_fits.true
 
 pub loop-k-preserved : goal.loop-k-preserved
-loop-k-preserved c = (search rules, wakes_more _ _ _ c.wake_fits.ensures c.loop-k.invariant.1 (not-false _ c.if-not-wake_fits.false))
+loop-k-preserved c = (search rules, wakes_more _ _ _ c.wake_fits.ensures c.loop-k.invariant.1 c.if-not-wake_fits.false)
 
 pub returns : goal.returns
 returns c = every_done _ _ _ c.loop-k.invariant.1 (search rules) (search rules)
