@@ -1,7 +1,7 @@
 -- Document 02, P4: a book's places and what it remembers, the new book, and the rules that a book meets (15, 25).
 use Rattle.std.specs.Prelude.{Bool, cond, not, ◌&&◌, ◌||◌, List, [], ◌∷◌, ℕ, ◌-◌, eqb, leb, length, replicate}
 use Rattle.words.specs.declared.Refusal.TheVariants.{HoldRange, BookRule}
-use Rattle.words.specs.Refusal.{unless, first_of}
+use Rattle.words.specs.Refusal.{unless, first_refusal}
 use Rattle.rules.specs.Limits.{max_heads}
 use Rattle.rules.specs.Each.{between, every, some}
 use Rattle.book.specs.declared.Entry.{Entry}
@@ -99,4 +99,4 @@ rules_refusal b = unless (book_fits b) BookRule
 
 -- the refusals of a book: 15, then 25
 unfoldable pub book_refusal : Book → ℕ
-book_refusal b = first_of (hold_refusal b.hold ∷ rules_refusal b ∷ [])
+book_refusal b = first_refusal (hold_refusal b.hold ∷ rules_refusal b ∷ [])

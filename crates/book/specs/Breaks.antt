@@ -1,7 +1,7 @@
 -- Document 02, P4: which breaks a book admits, whatever kind of post they come from. "A break is a head and the clock of the state offered with it."
 use Rattle.std.specs.Prelude.{Bool, true, false, ◌&&◌, [], ◌∷◌, ℕ, leb}
 use Rattle.words.specs.declared.Refusal.TheVariants.{BeforeLastBreak, NotActive}
-use Rattle.words.specs.Refusal.{unless, first_of}
+use Rattle.words.specs.Refusal.{unless, first_refusal}
 use Rattle.rules.specs.declared.Phase.{Phase}
 use Rattle.rules.specs.declared.Phase.TheVariants.{Init, Listen, Coldstart, Active}
 use Rattle.rules.specs.declared.State.{State}
@@ -27,4 +27,4 @@ head_refusal t s i = unless (is_head t i && active (phase_of s i)) NotActive
 
 -- the refusals of a break before its post is asked: 16, then 17
 unfoldable pub admit_refusal : Table → State → Book → ℕ → ℕ
-admit_refusal t s b i = first_of (clock_refusal b s.clock ∷ head_refusal t s i ∷ [])
+admit_refusal t s b i = first_refusal (clock_refusal b s.clock ∷ head_refusal t s i ∷ [])

@@ -2,7 +2,7 @@
 -- tails, takes its places and numbers and releases its entries by these.)
 use Rattle.std.specs.Prelude.{◌≡◌, Bool, cond, not, ◌&&◌, List, [], ◌∷◌, ℕ, suc, ◌+◌, ◌-◌, min, eqb, ltb}
 use Rattle.words.specs.declared.Refusal.TheVariants.{NoFreePlace, NoSuchEntry, NoNumberLeft}
-use Rattle.words.specs.Refusal.{verdict_number, unless, first_of}
+use Rattle.words.specs.Refusal.{verdict_number, unless, first_refusal}
 use Rattle.book.specs.declared.Entry.{Entry}
 use Rattle.book.specs.declared.Crossing.{Crossing}
 use Rattle.book.specs.declared.Book.{Book}
@@ -58,7 +58,7 @@ unfoldable pub number_refusal : Book → ℕ
 number_refusal b = unless (ltb b.given last_number) NoNumberLeft
 
 unfoldable pub entry_refusal : Book → ℕ
-entry_refusal b = first_of (place_refusal b ∷ number_refusal b ∷ [])
+entry_refusal b = first_refusal (place_refusal b ∷ number_refusal b ∷ [])
 
 -- the crossing of head i at a tick under the next number, "a number that rises from 1": as its place holds it, and as the head remembers it
 abbrev pub new_entry : Book → ℕ → ℕ → Entry
@@ -85,7 +85,7 @@ held_refusal b number = unless (not (eqb number 0) && not (eqb (place_of b.place
 
 -- "for a release 15, 25, then 19"
 unfoldable pub release_refusal : Book → ℕ → ℕ
-release_refusal b number = first_of (hold_refusal b.hold ∷ rules_refusal b ∷ held_refusal b number ∷ [])
+release_refusal b number = first_refusal (hold_refusal b.hold ∷ rules_refusal b ∷ held_refusal b number ∷ [])
 
 unfoldable pub released : Book → ℕ → Book
 released b number = record {

@@ -1,6 +1,6 @@
 -- What the door answers, by what document 01 says of images, steps and runs.
 use Rattle.std.specs.Prelude.{◌≡◌, List, [], ◌∷◌, ℕ, ◌+◌, ◌*◌, ◌%◌}
-use Rattle.words.specs.Refusal.{first_of}
+use Rattle.words.specs.Refusal.{first_refusal}
 use Rattle.words.specs.Pair.{step_of}
 use Rattle.rules.specs.declared.State.{State}
 use Rattle.rules.specs.Judge.{refusal, judged}
@@ -22,11 +22,11 @@ abbrev pub state_of : List ℕ → List ℕ → State
 state_of table state = read_state (read_table table) state
 
 unfoldable pub open_refusal : List ℕ → List ℕ → ℕ
-open_refusal table state = first_of (read_table_refusal table ∷ read_state_refusal (read_table table) state ∷ [])
+open_refusal table state = first_refusal (read_table_refusal table ∷ read_state_refusal (read_table table) state ∷ [])
 
 -- "the readers' numbers, then the operation's": of a judged step
 unfoldable pub judge_refusal : List ℕ → List ℕ → ℕ → ℕ → ℕ
-judge_refusal table state kind i = first_of (open_refusal table state ∷ refusal (read_table table) (state_of table state) (step_of kind i) ∷ [])
+judge_refusal table state kind i = first_refusal (open_refusal table state ∷ refusal (read_table table) (state_of table state) (step_of kind i) ∷ [])
 
 abbrev pub judged_state : List ℕ → List ℕ → ℕ → ℕ → State
 judged_state table state kind i = judged (read_table table) (state_of table state) (step_of kind i)

@@ -7,7 +7,7 @@ use Prim.Native.Nat.{ℕ, zero, suc}
 use native.Mathlib.Omega.{arith}
 use Rattle.words.specs.declared.Refusal.{Refusal}
 use Rattle.words.specs.declared.Refusal.TheVariants.{TableRange, StateRule, BeforeLastBreak, NotActive, NoFreePlace, NoSuchEntry, NoNumberLeft}
-use Rattle.words.specs.Refusal.{number_of, unless, first_of}
+use Rattle.words.specs.Refusal.{number_of, unless, first_refusal}
 use Rattle.words.proofs.Order.{unless_gives}
 use Rattle.rules.specs.Table.{table_refusal}
 use Rattle.rules.specs.State.{state_refusal}
@@ -51,13 +51,13 @@ accepted_fits b x e =
 -- ---- a book made by calls is never refused with 15 or 25
 
 -- a row gives no number that none of it gives
-not_first : (k x : ℕ) (rest : List ℕ) → (x ≡ suc k → ⊥) → (first_of rest ≡ suc k → ⊥) → first_of (x ∷ rest) ≡ suc k → ⊥
-unfolding first_of
+not_first : (k x : ℕ) (rest : List ℕ) → (x ≡ suc k → ⊥) → (first_refusal rest ≡ suc k → ⊥) → first_refusal (x ∷ rest) ≡ suc k → ⊥
+unfolding first_refusal
 not_first k zero rest n m = m
 not_first k (suc x) rest n m = n
 
-not_last : (k : ℕ) → first_of [] ≡ suc k → ⊥
-unfolding first_of
+not_last : (k : ℕ) → first_refusal [] ≡ suc k → ⊥
+unfolding first_refusal
 not_last k e = omega arith
 
 -- a number of none of the other refusals

@@ -6,7 +6,7 @@ use native.Mathlib.Omega.{arith}
 use lib.ListN.{length, drop}
 use borrow.Author.Tests.{ne_eqb, le-leb, lt-leb}
 use Rattle.words.specs.declared.Refusal.TheVariants.{ShortRoom}
-use Rattle.words.specs.Refusal.{number_of, unless, first_of}
+use Rattle.words.specs.Refusal.{number_of, unless, first_refusal}
 use Rattle.words.proofs.Order.{first_some}
 use Rattle.rules.specs.Room.{write_refusal, bytes_written, room_after}
 
@@ -16,11 +16,11 @@ module _ (unfit : ℕ) (image room : List ℕ) where
   write_unfit n = sym (first_some unfit _ n)
 
   pub write_short : unfit ≡ 0 → length room < length image → number_of ShortRoom ≡ write_refusal unfit image room
-  unfolding write_refusal first_of unless
+  unfolding write_refusal first_refusal unless
   write_short e h = rw (e, lt-leb _ _ h)
 
   pub write_fits : unfit ≡ 0 → length image ≤ length room → write_refusal unfit image room ≡ 0
-  unfolding write_refusal first_of unless
+  unfolding write_refusal first_refusal unless
   write_fits e h = rw (e, le-leb _ _ h)
 
 -- a writer that refuses: no byte is written, and the room is as it was

@@ -3,7 +3,7 @@ use Rattle.std.specs.Prelude.{cond, not, [], ◌∷◌, ℕ, eqb, leb}
 use Rattle.words.specs.declared.Step.{Step}
 use Rattle.words.specs.declared.Step.TheVariants.{Advance, Timer, Hear}
 use Rattle.words.specs.declared.Refusal.TheVariants.{NoSuchStep, SomethingDue, TimerNotDue, NotHearing, PastCeiling, OwnFrame}
-use Rattle.words.specs.Refusal.{unless, first_of}
+use Rattle.words.specs.Refusal.{unless, first_refusal}
 use Rattle.rules.specs.declared.State.{State}
 use Rattle.rules.specs.declared.Table.{Table}
 use Rattle.rules.specs.Limits.{ceiling}
@@ -32,7 +32,7 @@ last_refusal t s (Hear i) = unless (not (eqb i s.calendar.origin)) OwnFrame
 
 -- the refusals of a step on a table and a state that fit
 unfoldable pub step_refusal : Table → State → Step → ℕ
-step_refusal t s x = first_of (name_refusal t x ∷ due_refusal t s x ∷ last_refusal t s x ∷ [])
+step_refusal t s x = first_refusal (name_refusal t x ∷ due_refusal t s x ∷ last_refusal t s x ∷ [])
 
 -- the state after a step that is refused with a number, or accepted with 0: "A refused step returns the given state"
 unfoldable pub state_after : Table → State → Step → ℕ → State
@@ -40,11 +40,11 @@ state_after t s x number = cond (eqb number 0) (moved t s x) s
 
 -- the record refusals: table record 3, state record 6
 unfoldable pub record_refusal : Table → State → ℕ
-record_refusal t s = first_of (table_refusal t ∷ state_refusal t s ∷ [])
+record_refusal t s = first_refusal (table_refusal t ∷ state_refusal t s ∷ [])
 
 -- the refusal of a proposed step on any table and state; 0 where it is accepted
 unfoldable pub refusal : Table → State → Step → ℕ
-refusal t s x = first_of (table_refusal t ∷ state_refusal t s ∷ step_refusal t s x ∷ [])
+refusal t s x = first_refusal (table_refusal t ∷ state_refusal t s ∷ step_refusal t s x ∷ [])
 
 -- the state that a judged step answers
 unfoldable pub judged : Table → State → Step → State

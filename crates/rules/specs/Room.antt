@@ -1,12 +1,12 @@
 -- Lent room, before and after a writer of an image or of a step list: document 01, "Refusal numbers".
 use Rattle.std.specs.Prelude.{◌≡◌, cond, List, [], ◌∷◌, ◌++◌, ℕ, eqb, leb, length, drop}
 use Rattle.words.specs.declared.Refusal.TheVariants.{ShortRoom}
-use Rattle.words.specs.Refusal.{verdict_number, unless, first_of}
+use Rattle.words.specs.Refusal.{verdict_number, unless, first_refusal}
 use Rattle.rules.specs.declared.Written.{Written}
 
 -- "Writers and the step list: 3, 6 where a state is given, then 12": the refusal of what is given, then "12: room shorter than the image or step list"
 unfoldable pub write_refusal : ℕ → List ℕ → List ℕ → ℕ
-write_refusal unfit image room = first_of (unfit ∷ unless (leb (length image) (length room)) ShortRoom ∷ [])
+write_refusal unfit image room = first_refusal (unfit ∷ unless (leb (length image) (length room)) ShortRoom ∷ [])
 
 -- "a refused writer or step list answers 0 bytes. A writer that accepts answers the number of bytes written"
 unfoldable pub bytes_written : ℕ → List ℕ → ℕ

@@ -4,7 +4,7 @@ use mathlib.Core.Bool.{true, false}
 use mathlib.Core.List.{[], ◌∷◌}
 use Prim.Native.Nat.{ℕ}
 use borrow.Author.Tests.{ne_eqb}
-use Rattle.words.specs.Refusal.{verdict_number, first_of}
+use Rattle.words.specs.Refusal.{verdict_number, first_refusal}
 use Rattle.words.proofs.Order.{first_last, row_first, row_past}
 use Rattle.rules.specs.declared.State.{State}
 use Rattle.rules.specs.declared.Table.{Table}
@@ -62,7 +62,7 @@ module _ (t : Table) (s : State) (b : Book) (i : ℕ) where
   unfit_records r n v k = kept r (record_refusal t s) n (records_first n) v k
 
   module _ (z : record_refusal t s ≡ 0) where
-    past_records : break_refusal t s b i ≡ first_of (hold_refusal b.hold ∷ rules_refusal b ∷ cross_refusal t s b i ∷ [])
+    past_records : break_refusal t s b i ≡ first_refusal (hold_refusal b.hold ∷ rules_refusal b ∷ cross_refusal t s b i ∷ [])
     unfolding record_refusal break_refusal
     past_records = sym (row_past (table_refusal t) (state_refusal t s) _ z)
 

@@ -1,6 +1,6 @@
 -- Document 02, P4: a break on a single-beam post. "A break is a head and the clock of the state offered with it."
 use Rattle.std.specs.Prelude.{cond, [], ◌∷◌, ℕ}
-use Rattle.words.specs.Refusal.{first_of}
+use Rattle.words.specs.Refusal.{first_refusal}
 use Rattle.rules.specs.declared.State.{State}
 use Rattle.rules.specs.declared.Table.{Table}
 use Rattle.rules.specs.Table.{table_refusal}
@@ -16,11 +16,11 @@ new_refusal b i clock = cond (is_tail b i clock) 0 (entry_refusal b)
 
 -- the refusals of a break on a table, a state and a book that fit: 16, 17, then 18 and 20
 unfoldable pub cross_refusal : Table → State → Book → ℕ → ℕ
-cross_refusal t s b i = first_of (clock_refusal b s.clock ∷ head_refusal t s i ∷ new_refusal b i s.clock ∷ [])
+cross_refusal t s b i = first_refusal (clock_refusal b s.clock ∷ head_refusal t s i ∷ new_refusal b i s.clock ∷ [])
 
 -- the refusals of a break, in their order: 3, 6, 15, 25, then those
 unfoldable pub break_refusal : Table → State → Book → ℕ → ℕ
-break_refusal t s b i = first_of (table_refusal t ∷ state_refusal t s ∷ hold_refusal b.hold ∷ rules_refusal b ∷ cross_refusal t s b i ∷ [])
+break_refusal t s b i = first_refusal (table_refusal t ∷ state_refusal t s ∷ hold_refusal b.hold ∷ rules_refusal b ∷ cross_refusal t s b i ∷ [])
 
 -- "If that head's last entered crossing is less than H ticks old, the break is a tail [..] Otherwise it takes the lowest free place"
 unfoldable pub crossed : Book → ℕ → ℕ → Book

@@ -8,7 +8,7 @@ use borrow.Author.Tests.{lt-leb}
 use Rattle.words.specs.declared.Step.{Step}
 use Rattle.words.specs.declared.Step.TheVariants.{Advance, Timer, Hear}
 use Rattle.words.specs.declared.Refusal.TheVariants.{PastCeiling}
-use Rattle.words.specs.Refusal.{number_of, unless, first_of}
+use Rattle.words.specs.Refusal.{number_of, unless, first_refusal}
 use Rattle.rules.specs.declared.State.{State}
 use Rattle.rules.specs.declared.Table.{Table}
 use Rattle.rules.specs.Limits.{ceiling}
@@ -47,7 +47,7 @@ module _ (t : Table) (F : TableMeets t) where
 
     -- and where nothing is due, the clock goes on, if it may
     past : due t s ≡ false → ceiling < next_instant t s → refusal t s Advance ≡ number_of PastCeiling
-    unfolding refusal table_refusal state_refusal step_refusal name_refusal due_refusal last_refusal unless first_of
+    unfolding refusal table_refusal state_refusal step_refusal name_refusal due_refusal last_refusal unless first_refusal
     past e l = rw (meets_table t F, meets_state t s M, e, lt-leb _ _ l)
 
     idle_goes : due t s ≡ false → GoesOn t s

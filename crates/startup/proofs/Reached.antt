@@ -9,7 +9,7 @@ use borrow.Author.Tests.{eqb-true}
 use Rattle.hearers.specs.Set.{has, alone, without, all_but}
 use Rattle.words.specs.declared.Step.{Step}
 use Rattle.words.specs.declared.Step.TheVariants.{Advance, Timer, Hear}
-use Rattle.words.specs.Refusal.{unless, first_of}
+use Rattle.words.specs.Refusal.{unless, first_refusal}
 use Rattle.rules.specs.declared.Phase.TheVariants.{Coldstart, Active}
 use Rattle.rules.specs.declared.State.{State}
 use Rattle.rules.specs.declared.Table.{Table}
@@ -93,7 +93,7 @@ pub record AtBound (s : State) : Type 0 where
   pub one : phase_of s 1 ≡ Coldstart
 
 pub reached : Run table_e listing (played table_e listing) × BothAgreed (played table_e sixteen) × NotYetAgreed (played table_e half_turned) × SixLater (played table_e six_later) × AtBound (played table_b to_bound)
-unfolding accepts played_from last_of every some unless first_of is_head round offset wake_of numbers_fit wake_fits table_fits table_refusal quiet hears hear_due settled left taken send delivery_due all_zero frame_fits calendar_fits head_of put listen_wait coldstart_wait phase_fits head_fits is_zero place_fits front_fits state_fits state_refusal fresh timer_due due least_timeout next_instant advance slot_after timer_head timer_frame sends timer listener_wait hear_head hear moved name_refusal due_refusal last_refusal step_refusal state_after refusal judged has alone without all_but
+unfolding accepts played_from last_of every some unless first_refusal is_head round offset wake_of numbers_fit wake_fits table_fits table_refusal quiet hears hear_due settled left taken send delivery_due all_zero frame_fits calendar_fits head_of put listen_wait coldstart_wait phase_fits head_fits is_zero place_fits front_fits state_fits state_refusal fresh timer_due due least_timeout next_instant advance slot_after timer_head timer_frame sends timer listener_wait hear_head hear moved name_refusal due_refusal last_refusal step_refusal state_after refusal judged has alone without all_but
 reached = (
   run_on table_e listing power_up refl,
   record { run = run_on table_e sixteen power_up refl; idle = refl; one = (refl, refl); two = (refl, refl) },

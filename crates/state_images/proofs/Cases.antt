@@ -9,7 +9,7 @@ use lib.Dec.{eqb}
 use lib.ListN.{length, get_or, length-append}
 use borrow.Author.Tests.{le-leb, lt-leb, eq-eqb, ne_eqb}
 use Rattle.words.specs.declared.Refusal.TheVariants.{TableRange, StateLength, StateMark, StateRule}
-use Rattle.words.specs.Refusal.{number_of, unless, first_of}
+use Rattle.words.specs.Refusal.{number_of, unless, first_refusal}
 use Rattle.words.proofs.Order.{is_unless, unless_not, first_some, first_none, first_last}
 use Rattle.rules.specs.declared.Phase.{Phase}
 use Rattle.rules.specs.declared.Phase.TheVariants.{Active}
@@ -61,32 +61,32 @@ known_at_lem l k a b r e f g = rw (← e, ← f) (sym g)
 
 module _ (n : ℕ) (l : List ℕ) where
   pub take_odd : (length l ≡ state_length n → ⊥) → number_of StateLength ≡ take_refusal n l
-  unfolding take_refusal first_of unless
+  unfolding take_refusal first_refusal unless
   take_odd h = rw (ne_eqb _ _ h)
 
   module _ (long : length l ≡ state_length n) where
     pub take_unmarked : is_marked state_mark l ≡ false → number_of StateMark ≡ take_refusal n l
-    unfolding take_refusal first_of unless
+    unfolding take_refusal first_refusal unless
     take_unmarked m = rw (eq-eqb _ _ long, m)
 
     module _ (m : is_marked state_mark l ≡ true) where
       pub take_count : (count_in l ≡ n → ⊥) → number_of StateMark ≡ take_refusal n l
-      unfolding take_refusal first_of unless
+      unfolding take_refusal first_refusal unless
       take_count h = rw (eq-eqb _ _ long, m, ne_eqb _ _ h)
 
       pub take_unknown : count_in l ≡ n → every n (λ i. known_at l (head_place i)) ≡ false → number_of StateRule ≡ take_refusal n l
-      unfolding take_refusal first_of unless
+      unfolding take_refusal first_refusal unless
       take_unknown h e = rw (eq-eqb _ _ long, m, eq-eqb _ _ h, e)
 
       pub take_known : count_in l ≡ n → every n (λ i. known_at l (head_place i)) ≡ true → 0 ≡ take_refusal n l
-      unfolding take_refusal first_of unless
+      unfolding take_refusal first_refusal unless
       take_known h e = rw (eq-eqb _ _ long, m, eq-eqb _ _ h, e)
 
 -- ---- a state image: the record against its table
 
 module _ (t : Table) (l : List ℕ) where
   pub read_unfit : table_fits t ≡ false → number_of TableRange ≡ read_state_refusal t l
-  unfolding read_state_refusal table_refusal first_of unless
+  unfolding read_state_refusal table_refusal first_refusal unless
   read_unfit e = rw e
 
   module _ (fit : table_fits t ≡ true) where

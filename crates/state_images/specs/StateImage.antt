@@ -1,7 +1,7 @@
 -- Document 01, "The state": the state image, and what reads as one against a table.
 use Rattle.std.specs.Prelude.{Bool, ◌&&◌, ◌||◌, List, [], ◌∷◌, ◌++◌, ℕ, zero, suc, ◌+◌, ◌*◌, eqb, leb, length}
 use Rattle.words.specs.declared.Refusal.TheVariants.{StateLength, StateMark, StateRule}
-use Rattle.words.specs.Refusal.{unless, first_of}
+use Rattle.words.specs.Refusal.{unless, first_refusal}
 use Rattle.rules.specs.declared.Table.{Table}
 use Rattle.rules.specs.declared.Phase.{Phase}
 use Rattle.rules.specs.declared.Phase.TheVariants.{Init, Listen, Coldstart, Active}
@@ -99,7 +99,7 @@ state_in n l = record { clock = number_at l clock_place 4; n = n; calendar = cal
 -- "length 4; 5; 6": "5: state mark, version or N wrong"; here 6 is given for a phase number or a slot
 unfoldable pub take_refusal : ℕ → List ℕ → ℕ
 take_refusal n l =
-    first_of
+    first_refusal
     (unless (eqb (length l) (state_length n)) StateLength
     ∷ unless (is_marked state_mark l && eqb (count_in l) n) StateMark
     ∷ unless (every n (λ i. known_at l (head_place i))) StateRule
@@ -111,7 +111,7 @@ take_state n l = or_blank (take_refusal n l) (state_in n l) blank
 
 -- "For a state image, whose table record is checked first (3): length 4; 5; 6."
 unfoldable pub read_state_refusal : Table → List ℕ → ℕ
-read_state_refusal t l = first_of (table_refusal t ∷ take_refusal t.n l ∷ state_refusal t (state_in t.n l) ∷ [])
+read_state_refusal t l = first_refusal (table_refusal t ∷ take_refusal t.n l ∷ state_refusal t (state_in t.n l) ∷ [])
 
 abbrev pub read_state : Table → List ℕ → State
 read_state t l = or_blank (read_state_refusal t l) (state_in t.n l) blank

@@ -10,9 +10,6 @@ use native.Mathlib.Omega.{arith}
 use lib.Dec.{eqb, leb}
 use lib.ListN.{get_or}
 use borrow.Author.Tests.{eq-eqb, ne_eqb, lt-ltb, le-ltb, lt-leb, le-leb}
-use types.Run.{OneOf}
-use denote.Enum.Declared.{tag_of}
-use Rattle.rules.specs.contracts.Phase.{the_type}
 use Rattle.hearers.specs.Set.{has, without, all_but}
 use Rattle.words.specs.declared.Step.{Step}
 use Rattle.words.specs.declared.Step.TheVariants.{Advance, Timer, Hear}
@@ -70,23 +67,14 @@ pub slot_first : (t : Table) (k : ℕ) → t.n ≤ k → 1 ≡ slot_after t k
 unfolding slot_after
 slot_first t k l = rw (le-ltb _ _ l)
 
--- the two phases in which a timer sends a coldstart frame, by their tags
-tries : (p : Phase) → OneOf (1 ∷ 2 ∷ []) (tag_of the_type p) → (p ≡ Listen) ⊎ (p ≡ Coldstart)
-tries Init (inl e) = absurd (omega arith)
-tries Init (inr e) = absurd (omega arith)
-tries Listen o = inl refl
-tries Coldstart o = inr refl
-tries (Active k) (inl e) = absurd (omega arith)
-tries (Active k) (inr e) = absurd (omega arith)
-
 module _ (t : Table) (clock i : ℕ) (p : Phase) where
   pub timer_init : p ≡ Init → (w : ℕ) → w ≡ listen_wait t i → head_in Listen (clock + w) ≡ timer_head t clock i p
   unfolding timer_head
   timer_init e w f = rw (e, f)
 
-  pub timer_tries : OneOf (1 ∷ 2 ∷ []) (tag_of the_type p) → (w : ℕ) → w ≡ coldstart_wait t i → head_in Coldstart (clock + w) ≡ timer_head t clock i p
+  pub timer_tries : (p ≡ Listen) ⊎ (p ≡ Coldstart) → (w : ℕ) → w ≡ coldstart_wait t i → head_in Coldstart (clock + w) ≡ timer_head t clock i p
   unfolding timer_head
-  timer_tries o w f = rw f (⊎_elim (λ e. rw e) (λ e. rw e) (tries p o))
+  timer_tries o w f = rw f (⊎_elim (λ e. rw e) (λ e. rw e) o)
 
   pub timer_active : (k : ℕ) → p ≡ Active k → (next : ℕ) → next ≡ slot_after t k → head_in (Active next) (clock + t.s) ≡ timer_head t clock i p
   unfolding timer_head
@@ -97,9 +85,9 @@ module _ (t : Table) (i : ℕ) (p : Phase) where
   unfolding timer_frame
   frame_init e = rw e
 
-  pub frame_tries : OneOf (1 ∷ 2 ∷ []) (tag_of the_type p) → coldstart_frame ≡ timer_frame t i p
+  pub frame_tries : (p ≡ Listen) ⊎ (p ≡ Coldstart) → coldstart_frame ≡ timer_frame t i p
   unfolding timer_frame
-  frame_tries o = ⊎_elim (λ e. rw e) (λ e. rw e) (tries p o)
+  frame_tries o = ⊎_elim (λ e. rw e) (λ e. rw e) o
 
   pub frame_own : (k : ℕ) → p ≡ Active k → (next : ℕ) → next ≡ slot_after t k → next ≡ i → i_frame ≡ timer_frame t i p
   unfolding timer_frame

@@ -12,9 +12,9 @@ use borrow.Author.Tests.{ne_eqb, lt-leb, le-leb}
 use Rattle.words.specs.declared.Step.{Step}
 use Rattle.words.specs.declared.Step.TheVariants.{Advance, Timer, Hear}
 use Rattle.words.specs.declared.Refusal.TheVariants.{NoSuchStep}
-use Rattle.words.specs.Refusal.{first_of}
+use Rattle.words.specs.Refusal.{first_refusal}
 use Rattle.words.specs.Pair.{head_number}
-use Rattle.words.proofs.Order.{unless_is, unless_not, first_none, row_is}
+use Rattle.words.proofs.Order.{unless_is, unless_not, first_none, row_is, row_end}
 use Rattle.rules.specs.declared.Phase.{Phase}
 use Rattle.rules.specs.declared.Phase.TheVariants.{Init, Listen, Coldstart, Active}
 use Rattle.rules.specs.declared.Head.{Head}
@@ -115,9 +115,9 @@ module _ (t : Table) (s : State) (f : table_fits t ≡ true) (g : state_fits t s
   advance_refusal_lem = rw (instant_is t s, due_now) (sym (first_none 0 _ refl))
 
   timer_refusal_lem : (i : ℕ) → timer_refusal t s.clock (get_or s.heads (place i) no_head) i ≡ step_refusal t s (Timer i)
-  unfolding timer_refusal step_refusal name_refusal due_refusal last_refusal timer_due first_of
+  unfolding timer_refusal step_refusal name_refusal due_refusal last_refusal timer_due first_refusal
   timer_refusal_lem i = ⊎_elim
-      (λ e. rw (named i e))
+      (λ e. rw (named i e) (row_end _ _))
       (λ e. rw (unless_not (is_head t i) NoSuchStep e))
       (either_or_not (is_head t i))
 

@@ -4,7 +4,7 @@ use Rattle.std.specs.Prelude.{Bool, true, false, cond, not, List, [], ◌∷◌,
 use Rattle.words.specs.declared.Step.{Step}
 use Rattle.words.specs.declared.Step.TheVariants.{Advance, Timer, Hear}
 use Rattle.words.specs.declared.Refusal.TheVariants.{NoSuchStep, SomethingDue, TimerNotDue, NotHearing, PastCeiling, OwnFrame}
-use Rattle.words.specs.Refusal.{unless, first_of}
+use Rattle.words.specs.Refusal.{unless, first_refusal}
 use Rattle.rules.specs.declared.Phase.{Phase}
 use Rattle.rules.specs.declared.Phase.TheVariants.{Init, Listen, Coldstart, Active}
 use Rattle.rules.specs.declared.Head.{Head}
@@ -60,13 +60,13 @@ heeds (Active k) = false
 
 -- "then 7; then 8, 9 or 10 by kind; then 11 or 13", an advance by the instant it comes to
 unfoldable pub advance_refusal : ℕ → ℕ → ℕ
-advance_refusal clock next = first_of (unless (not (eqb next clock)) SomethingDue ∷ unless (leb next ceiling) PastCeiling ∷ [])
+advance_refusal clock next = first_refusal (unless (not (eqb next clock)) SomethingDue ∷ unless (leb next ceiling) PastCeiling ∷ [])
 
 unfoldable pub timer_refusal : Table → ℕ → Head → ℕ → ℕ
-timer_refusal t clock h i = first_of (unless (is_head t i) NoSuchStep ∷ unless (eqb h.timeout clock) TimerNotDue ∷ [])
+timer_refusal t clock h i = first_refusal (unless (is_head t i) NoSuchStep ∷ unless (eqb h.timeout clock) TimerNotDue ∷ [])
 
 unfoldable pub hear_refusal : Table → ℕ → Calendar → ℕ → ℕ
-hear_refusal t clock c i = first_of (unless (is_head t i) NoSuchStep ∷ unless (hear_due clock c i) NotHearing ∷ unless (not (eqb i c.origin)) OwnFrame ∷ [])
+hear_refusal t clock c i = first_refusal (unless (is_head t i) NoSuchStep ∷ unless (hear_due clock c i) NotHearing ∷ unless (not (eqb i c.origin)) OwnFrame ∷ [])
 
 unfoldable pub part_refusal : Table → ℕ → ℕ → Calendar → Head → Step → ℕ
 part_refusal t clock later c h Advance = advance_refusal clock later

@@ -6,7 +6,7 @@ use Prim.Native.Nat.{ℕ, suc, ◌≤◌, ◌<◌}
 use lib.ListN.{length, get_or, length-append}
 use borrow.Author.Tests.{le-leb, lt-leb, eq-eqb, ne_eqb}
 use Rattle.words.specs.declared.Refusal.TheVariants.{TableLength, TableMark, TableRange}
-use Rattle.words.specs.Refusal.{number_of, unless, first_of}
+use Rattle.words.specs.Refusal.{number_of, unless, first_refusal}
 use Rattle.words.proofs.Order.{first_last}
 use Rattle.rules.specs.declared.Table.{Table}
 use Rattle.rules.specs.Limits.{max_heads}
@@ -21,30 +21,30 @@ use Rattle.table_images.specs.TableImage.{table_mark, table_front, wake_length, 
 
 module _ (l : List ℕ) where
   pub table_short : length l < table_front → number_of TableLength ≡ read_table_refusal l
-  unfolding read_table_refusal first_of unless
+  unfolding read_table_refusal first_refusal unless
   table_short h = rw (lt-leb _ _ h)
 
   module _ (long : table_front ≤ length l) where
     pub table_unmarked : is_marked table_mark l ≡ false → number_of TableMark ≡ read_table_refusal l
-    unfolding read_table_refusal first_of unless
+    unfolding read_table_refusal first_refusal unless
     table_unmarked m = rw (le-leb _ _ long, m)
 
     module _ (m : is_marked table_mark l ≡ true) where
       pub table_none : count_in l < 1 → number_of TableRange ≡ read_table_refusal l
-      unfolding read_table_refusal first_of unless
+      unfolding read_table_refusal first_refusal unless
       table_none h = rw (le-leb _ _ long, m, lt-leb _ _ h)
 
       pub table_many : 1 ≤ count_in l → max_heads < count_in l → number_of TableRange ≡ read_table_refusal l
-      unfolding read_table_refusal first_of unless
+      unfolding read_table_refusal first_refusal unless
       table_many a h = rw (le-leb _ _ long, m, le-leb _ _ a, lt-leb _ _ h)
 
       module _ (a : 1 ≤ count_in l) (b : count_in l ≤ max_heads) where
         pub table_odd : (length l ≡ table_length (count_in l) → ⊥) → number_of TableLength ≡ read_table_refusal l
-        unfolding read_table_refusal first_of unless
+        unfolding read_table_refusal first_refusal unless
         table_odd n = rw (le-leb _ _ long, m, le-leb _ _ a, le-leb _ _ b, ne_eqb _ _ n)
 
         pub table_taken : length l ≡ table_length (count_in l) → table_refusal (table_in l) ≡ read_table_refusal l
-        unfolding read_table_refusal first_of unless
+        unfolding read_table_refusal first_refusal unless
         table_taken e = rw (le-leb _ _ long, m, le-leb _ _ a, le-leb _ _ b, eq-eqb _ _ e) (sym (first_last (table_refusal (table_in l))))
 
 pub took_table : (l : List ℕ) (n s p : ℕ) (w : List ℕ) → n ≡ count_in l → s ≡ number_at l 6 2 → p ≡ number_at l 8 2 → w ≡ places 0 (λ i. number_at l (wake_place i) 4) n

@@ -1,7 +1,7 @@
 -- Document 01, "The head table": the table image, and what reads as one.
 use Rattle.std.specs.Prelude.{List, [], ◌∷◌, ◌++◌, ℕ, ◌+◌, ◌*◌, eqb, leb, length, replicate}
 use Rattle.words.specs.declared.Refusal.TheVariants.{TableLength, TableMark, TableRange}
-use Rattle.words.specs.Refusal.{unless, first_of}
+use Rattle.words.specs.Refusal.{unless, first_refusal}
 use Rattle.rules.specs.declared.Table.{Table}
 use Rattle.rules.specs.Each.{between}
 use Rattle.rules.specs.Limits.{max_heads}
@@ -53,7 +53,7 @@ table_in l = record { n = count_in l; s = number_at l slot_place 2; p = number_a
 -- "Order for a table image: under 10 bytes 1; 2; N 3; length 1; the other numbers 3."
 unfoldable pub read_table_refusal : List ℕ → ℕ
 read_table_refusal l =
-    first_of
+    first_refusal
     (unless (leb table_front (length l)) TableLength
     ∷ unless (is_marked table_mark l) TableMark
     ∷ unless (between 1 max_heads (count_in l)) TableRange

@@ -9,7 +9,7 @@ use Rattle.words.specs.declared.Refusal.{Refusal}
 use Rattle.words.specs.declared.Refusal.TheVariants.{TableLength, TableMark, TableRange, StateLength, StateMark, StateRule, NoSuchStep, SomethingDue, TimerNotDue, NotHearing, PastCeiling, ShortRoom, OwnFrame, HoldRange, BeforeLastBreak, NotActive, NoFreePlace, NoSuchEntry, NoNumberLeft, BookRule}
 use Rattle.words.specs.declared.Verdict.{Verdict}
 use Rattle.words.specs.declared.Verdict.TheVariants.{Accepted, Refused}
-use Rattle.words.specs.Refusal.{number_of, verdict_number, unless, first_of}
+use Rattle.words.specs.Refusal.{number_of, verdict_number, unless, first_refusal}
 
 -- ---- each number is one refusal's
 
@@ -96,46 +96,53 @@ unfolding unless
 unless_not b x e = rw e
 
 -- a row gives its first where that refuses, and otherwise goes on
-pub first_some : (x : ℕ) (rest : List ℕ) → (x ≡ 0 → ⊥) → first_of (x ∷ rest) ≡ x
-unfolding first_of
+pub first_some : (x : ℕ) (rest : List ℕ) → (x ≡ 0 → ⊥) → first_refusal (x ∷ rest) ≡ x
+unfolding first_refusal
 first_some zero rest n = absurd (n refl)
 first_some (suc x) rest n = refl
 
-pub first_none : (x : ℕ) (rest : List ℕ) → x ≡ 0 → first_of (x ∷ rest) ≡ first_of rest
-unfolding first_of
+pub first_none : (x : ℕ) (rest : List ℕ) → x ≡ 0 → first_refusal (x ∷ rest) ≡ first_refusal rest
+unfolding first_refusal
 first_none x rest e = rw e
 
-pub first_last : (x : ℕ) → first_of (x ∷ []) ≡ x
-unfolding first_of
+pub first_last : (x : ℕ) → first_refusal (x ∷ []) ≡ x
+unfolding first_refusal
 first_last zero = refl
 first_last (suc x) = refl
 
 -- a row gives no refusal where its first gives none and the rest give none
-pub first_is : (x : ℕ) (rest : List ℕ) → first_of (x ∷ rest) ≡ 0 → (x ≡ 0) × (first_of rest ≡ 0)
-unfolding first_of
+pub first_is : (x : ℕ) (rest : List ℕ) → first_refusal (x ∷ rest) ≡ 0 → (x ≡ 0) × (first_refusal rest ≡ 0)
+unfolding first_refusal
 first_is zero rest e = (refl, e)
 first_is (suc x) rest e = absurd (omega arith)
 
-pub is_first : (x : ℕ) (rest : List ℕ) → x ≡ 0 → first_of rest ≡ 0 → first_of (x ∷ rest) ≡ 0
-unfolding first_of
+pub is_first : (x : ℕ) (rest : List ℕ) → x ≡ 0 → first_refusal rest ≡ 0 → first_refusal (x ∷ rest) ≡ 0
+unfolding first_refusal
 is_first x rest e f = rw e f
 
 -- the same of a row of three
-pub row_is : (a b c : ℕ) → first_of (a ∷ b ∷ c ∷ []) ≡ 0 → (a ≡ 0) × (b ≡ 0) × (c ≡ 0)
+pub row_is : (a b c : ℕ) → first_refusal (a ∷ b ∷ c ∷ []) ≡ 0 → (a ≡ 0) × (b ≡ 0) × (c ≡ 0)
 row_is a b c e = let r = first_is a _ e in let q = first_is b _ r.1 in (r.0, q.0, (first_is c [] q.1).0)
 
-pub is_row : {a b c : ℕ} → a ≡ 0 → b ≡ 0 → c ≡ 0 → first_of (a ∷ b ∷ c ∷ []) ≡ 0
-unfolding first_of
+pub is_row : {a b c : ℕ} → a ≡ 0 → b ≡ 0 → c ≡ 0 → first_refusal (a ∷ b ∷ c ∷ []) ≡ 0
+unfolding first_refusal
 is_row p q r = rw (p, q, r)
 
 -- a row that begins with two gives what those give, or what the rest gives
-pub row_first : (x y : ℕ) (rest : List ℕ) → (first_of (x ∷ y ∷ []) ≡ 0 → ⊥) → first_of (x ∷ y ∷ []) ≡ first_of (x ∷ y ∷ rest)
-unfolding first_of
+pub row_first : (x y : ℕ) (rest : List ℕ) → (first_refusal (x ∷ y ∷ []) ≡ 0 → ⊥) → first_refusal (x ∷ y ∷ []) ≡ first_refusal (x ∷ y ∷ rest)
+unfolding first_refusal
 row_first zero zero rest n = absurd (n refl)
 row_first zero (suc y) rest n = refl
 row_first (suc x) y rest n = refl
 
-pub row_past : (x y : ℕ) (rest : List ℕ) → first_of (x ∷ y ∷ []) ≡ 0 → first_of rest ≡ first_of (x ∷ y ∷ rest)
+-- a row of two gives what it gives with a third that refuses nothing
+pub row_end : (x y : ℕ) → first_refusal (x ∷ y ∷ []) ≡ first_refusal (x ∷ y ∷ 0 ∷ [])
+unfolding first_refusal
+row_end zero zero = refl
+row_end zero (suc y) = refl
+row_end (suc x) y = refl
+
+pub row_past : (x y : ℕ) (rest : List ℕ) → first_refusal (x ∷ y ∷ []) ≡ 0 → first_refusal rest ≡ first_refusal (x ∷ y ∷ rest)
 row_past x y rest e = let r = first_is x _ e in sym (first_none x _ r.0 ∙ first_none y _ (first_is y [] r.1).0)
 
 -- which of a row of three gives its number n
@@ -144,8 +151,8 @@ pub data Gives (a b c n : ℕ) : Type 0 where
   by_second : a ≡ 0 → b ≡ n → Gives a b c n
   by_third : a ≡ 0 → b ≡ 0 → c ≡ n → Gives a b c n
 
-pub row_gives : (a b c n : ℕ) → first_of (a ∷ b ∷ c ∷ []) ≡ suc n → Gives a b c (suc n)
-unfolding first_of
+pub row_gives : (a b c n : ℕ) → first_refusal (a ∷ b ∷ c ∷ []) ≡ suc n → Gives a b c (suc n)
+unfolding first_refusal
 row_gives zero zero zero n e = absurd (omega arith)
 row_gives zero zero (suc c) n e = by_third refl refl e
 row_gives zero (suc b) c n e = by_second refl e

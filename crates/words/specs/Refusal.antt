@@ -37,7 +37,7 @@ unfoldable pub unless : Bool → Refusal → ℕ
 unless ok x = cond ok 0 (number_of x)
 
 -- the first refusal of a row, in the order of precedence; 0 where none is given
-unfoldable pub first_of : List ℕ → ℕ
-first_of [] = 0
-first_of (zero ∷ rest) = first_of rest
-first_of (suc x ∷ rest) = suc x
+unfoldable pub first_refusal : List ℕ → ℕ
+first_refusal [] = 0
+first_refusal (zero ∷ rest) = first_refusal rest
+first_refusal (suc x ∷ rest) = suc x

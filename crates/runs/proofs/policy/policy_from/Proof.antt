@@ -12,7 +12,7 @@ use Rattle.steps.proofs.Laws.{clock_advance, clock_timer, clock_hear}
 use Rattle.steps.proofs.Parts.{place_below, goes_advance, goes_timer, goes_hear, goes_still, sends_mid, silent_mid, same_advance, same_timer, same_hear, timer_sender, hear_sender}
 use Rattle.runs.specs.Open.{open_to}
 use Rattle.runs.specs.Chosen.{policy_from}
-use Rattle.runs.proofs.Laws.{still_fits, quiet_beside, quiet_of, first_of, policy_free, policy_due, policy_high, Takes, takes_advance, takes_head, policy_on, policy_stuck, policy_done}
+use Rattle.runs.proofs.Laws.{still_fits, quiet_beside, quiet_of, first_refusal, policy_free, policy_due, policy_high, Takes, takes_advance, takes_head, policy_on, policy_stuck, policy_done}
 use borrow.Author.Rules.{rules}
 use Rattle.runs.proofs.policy.policy_from.Statement.{statement}
 use Rattle.runs.proofs.policy.policy_from.Tie as tie
@@ -55,10 +55,10 @@ timer-frame-requires : tie.Need-timer-frame-requires invariant-loop decreases-lo
 timer-frame-requires c κs = search rules
 
 send-requires : tie.Need-send-requires invariant-loop decreases-loop
-send-requires c κs = let w = c.before.before.before.before.before.before.before.before.before.before.before.loop in let x = first_of _ _ w.invariant.2 _ _ c.before.before.before.before.before.before.before.first-due.ensures.0 in let z = policy_due _ _ c.before.before.before.before.before.before.before.before.before.before.before.before.before.requires.0 w.invariant.1 _ w.invariant.2 _ _ (clock_timer _ _ _ _ _ _ c.before.before.before.before.before.x.given.1) x refl in timer_sender _ _ c.before.before.before.before.before.before.before.before.before.before.before.before.before.requires.0 w.invariant.1 _ _ c.before.before.before.before.before.x.given.1 z
+send-requires c κs = let w = c.before.before.before.before.before.before.before.before.before.before.before.loop in let x = first_refusal _ _ w.invariant.2 _ _ c.before.before.before.before.before.before.before.first-due.ensures.0 in let z = policy_due _ _ c.before.before.before.before.before.before.before.before.before.before.before.before.before.requires.0 w.invariant.1 _ w.invariant.2 _ _ (clock_timer _ _ _ _ _ _ c.before.before.before.before.before.x.given.1) x refl in timer_sender _ _ c.before.before.before.before.before.before.before.before.before.before.before.before.before.requires.0 w.invariant.1 _ _ c.before.before.before.before.before.x.given.1 z
 
 timer-head-requires : tie.Need-timer-head-requires invariant-loop decreases-loop
-timer-head-requires c κs = let w = c.before.before.before.before.before.before.before.before.before.before.before.loop in let x = first_of _ _ w.invariant.2 _ _ c.before.before.before.before.before.before.before.first-due.ensures.0 in let z = policy_due _ _ c.before.before.before.before.before.before.before.before.before.before.before.before.before.requires.0 w.invariant.1 _ w.invariant.2 _ _ (clock_timer _ _ _ _ _ _ c.before.before.before.before.before.x.given.1) x refl in timer_sender _ _ c.before.before.before.before.before.before.before.before.before.before.before.before.before.requires.0 w.invariant.1 _ _ c.before.before.before.before.before.x.given.1 z
+timer-head-requires c κs = let w = c.before.before.before.before.before.before.before.before.before.before.before.loop in let x = first_refusal _ _ w.invariant.2 _ _ c.before.before.before.before.before.before.before.first-due.ensures.0 in let z = policy_due _ _ c.before.before.before.before.before.before.before.before.before.before.before.before.before.requires.0 w.invariant.1 _ w.invariant.2 _ _ (clock_timer _ _ _ _ _ _ c.before.before.before.before.before.x.given.1) x refl in timer_sender _ _ c.before.before.before.before.before.before.before.before.before.before.before.before.before.requires.0 w.invariant.1 _ _ c.before.before.before.before.before.x.given.1 z
 
 mul-moved : tie.Need-overflow-mul-moved invariant-loop decreases-loop
 mul-moved c = let b = place_below c.before.before.before.before.before.before.x.given.0.0 in let p = c.before.before.before.before.place.ensures in omega arith
@@ -85,13 +85,13 @@ element-copy-out-h-2 : tie.Need-element-copy-out-h-2 invariant-loop decreases-lo
 element-copy-out-h-2 c = let b = place_below c.before.before.x2.given.0.0 in let p = c.place2.ensures in omega arith
 
 left-requires : tie.Need-left-requires invariant-loop decreases-loop
-left-requires c κs = let w = c.before.before.before.before.before.before.before.before.before.loop in let x = first_of _ _ w.invariant.2 _ _ c.before.before.before.before.before.first-due.ensures.0 in let z = policy_due _ _ c.before.before.before.before.before.before.before.before.before.before.before.requires.0 w.invariant.1 _ w.invariant.2 _ _ (clock_hear _ _ _ _ _ _ c.before.before.before.x2.given.1) x refl in let r = hear_sender _ _ c.before.before.before.before.before.before.before.before.before.before.before.requires.0 w.invariant.1 _ _ c.before.before.before.x2.given.1 z in omega arith
+left-requires c κs = let w = c.before.before.before.before.before.before.before.before.before.loop in let x = first_refusal _ _ w.invariant.2 _ _ c.before.before.before.before.before.first-due.ensures.0 in let z = policy_due _ _ c.before.before.before.before.before.before.before.before.before.before.before.requires.0 w.invariant.1 _ w.invariant.2 _ _ (clock_hear _ _ _ _ _ _ c.before.before.before.x2.given.1) x refl in let r = hear_sender _ _ c.before.before.before.before.before.before.before.before.before.before.before.requires.0 w.invariant.1 _ _ c.before.before.before.x2.given.1 z in omega arith
 
 heeds-requires : tie.Need-heeds-requires invariant-loop decreases-loop
 heeds-requires c κs = search rules
 
 hear-head-requires : tie.Need-hear-head-requires invariant-loop decreases-loop
-hear-head-requires c κs = let w = c.before.before.before.before.before.before.before.before.before.before.before.before.loop in let x = first_of _ _ w.invariant.2 _ _ c.before.before.before.before.before.before.before.before.first-due.ensures.0 in let z = policy_due _ _ c.before.before.before.before.before.before.before.before.before.before.before.before.before.before.requires.0 w.invariant.1 _ w.invariant.2 _ _ (clock_hear _ _ _ _ _ _ c.before.before.before.before.before.before.x2.given.1) x refl in hear_sender _ _ c.before.before.before.before.before.before.before.before.before.before.before.before.before.before.requires.0 w.invariant.1 _ _ c.before.before.before.before.before.before.x2.given.1 z
+hear-head-requires c κs = let w = c.before.before.before.before.before.before.before.before.before.before.before.before.loop in let x = first_refusal _ _ w.invariant.2 _ _ c.before.before.before.before.before.before.before.before.first-due.ensures.0 in let z = policy_due _ _ c.before.before.before.before.before.before.before.before.before.before.before.before.before.before.requires.0 w.invariant.1 _ w.invariant.2 _ _ (clock_hear _ _ _ _ _ _ c.before.before.before.before.before.before.x2.given.1) x refl in hear_sender _ _ c.before.before.before.before.before.before.before.before.before.before.before.before.before.before.requires.0 w.invariant.1 _ _ c.before.before.before.before.before.before.x2.given.1 z
 
 mul-moved-2 : tie.Need-overflow-mul-moved-2 invariant-loop decreases-loop
 mul-moved-2 c = let b = place_below c.before.before.before.before.before.before.before.x2.given.0.0 in let p = c.before.before.before.before.before.place2.ensures in omega arith
@@ -112,7 +112,7 @@ loop-less : tie.Need-loop-smaller invariant-loop decreases-loop
 loop-less c = search rules
 
 loop-again : tie.Need-loop-preserved invariant-loop decreases-loop
-loop-again c = let w = c.before.before.before.before.before.loop in let x = first_of _ _ w.invariant.2 _ _ c.before.first-due.ensures.0 in let f = c.before.before.before.before.before.before.before.requires.0 in
+loop-again c = let w = c.before.before.before.before.before.loop in let x = first_refusal _ _ w.invariant.2 _ _ c.before.first-due.ensures.0 in let f = c.before.before.before.before.before.before.before.requires.0 in
     let y : Takes c.before.before.before.before.before.before.before.args.t w.current c.before.first-due.result c.match.current c.match.all c.match.from = elim c.match.branch [
       | inl a ↦ let z = policy_free _ _ f w.invariant.1 _ w.invariant.2 _ _ (a.3.ensures ∙ clock_advance _ _ _ _ _ a.1.given.1) x a.4.left in
           takes_advance _ _ _ _ _ _ (goes_advance _ _ f w.invariant.1 _ w.invariant.2 _ _ _ a.1.given.1 _ a.3.ensures (same_advance _ _ f w.invariant.1 _ a.1.given.1 _ w.invariant.2 _ a.3.ensures ∙ z) a.5 a.6) a.7
@@ -134,7 +134,7 @@ returns c = let w = c.before.before.loop in let f = c.before.before.before.befor
     c.stopped.ensures
     ∙ ⊎_elim
     (λ z. policy_done _ _ f w.invariant.1 _ _ w.invariant.5 (omega arith))
-    (λ z. policy_stuck _ _ f w.invariant.1 _ _ w.invariant.5 (omega arith) _ (first_of _ _ w.invariant.2 _ _ z.3.ensures.0) (policy_high _ _ f w.invariant.1 _ w.invariant.2 _ _ (z.7.ensures ∙ clock_advance _ _ _ _ _ z.5.given.1) z.8.taken))
+    (λ z. policy_stuck _ _ f w.invariant.1 _ _ w.invariant.5 (omega arith) _ (first_refusal _ _ w.invariant.2 _ _ z.3.ensures.0) (policy_high _ _ f w.invariant.1 _ w.invariant.2 _ _ (z.7.ensures ∙ clock_advance _ _ _ _ _ z.5.given.1) z.8.taken))
     c.before.loop-test.branch
 
 pub policy-from-spec : {M : Type 1} → statement M
