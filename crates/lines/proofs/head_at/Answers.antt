@@ -9,7 +9,7 @@ pub returns-then-i-lt1 : goal.returns-then-i-lt1
 returns-then-i-lt1 c = c.no_head.ensures ∙ head_none _ _ (search rules)
 
 pub returns-then-i-gt-MAX_HEADS : goal.returns-then-i-gt-MAX_HEADS
-returns-then-i-gt-MAX_HEADS c = c.no_head-then-i-gt-MAX_HEADS.ensures ∙ head_past _ _ (state_places c.args.t1 _ c.well_formed.0) (search rules)
+returns-then-i-gt-MAX_HEADS c = c.no_head-then-i-gt-MAX_HEADS.ensures ∙ head_past _ _ (state_places c.args.s _ c.well_formed.0) (search rules)
 
 pub returns : goal.returns
 returns c = sym (head_at _ _ (search rules))

@@ -23,10 +23,10 @@ pub put_number-p-requires : goal.put_number-p-requires
 put_number-p-requires c = simp length-set (omega arith)
 
 pub put_number-q-requires : goal.put_number-q-requires
-put_number-q-requires c = let k = simp length-set at c.put_number-p.auto.0 in omega (arith, k)
+put_number-q-requires c = let k = simp length-set at c.put_number-p.auto.room in omega (arith, k)
 
 pub shape_of-room : goal.shape_of-room
-shape_of-room c = c.put_number-q.auto.0 ∙ simp length-set at c.put_number-p.auto.0
+shape_of-room c = c.put_number-q.auto.room ∙ simp length-set at c.put_number-p.auto.room
 
 pub returns : goal.returns
 returns c =

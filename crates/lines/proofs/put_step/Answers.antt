@@ -2,7 +2,7 @@ use Rattle.lines.proofs.Written.{step_written}
 use Rattle.lines.proofs.put_step.Goals as goal
 
 pub shape_of-room : goal.shape_of-room
-shape_of-room c = c.put_row.auto.0
+shape_of-room c = c.put_row.auto.room
 
 pub returns : goal.returns
 returns c =
