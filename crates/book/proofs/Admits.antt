@@ -8,8 +8,6 @@ use native.Mathlib.Omega.{arith}
 use lib.Dec.{leb}
 use lib.ListN.{get_or}
 use borrow.Author.Tests.{leb-true, le-leb, lt-leb}
-use types.Run.{OneOf}
-use denote.Enum.Declared.{tag_of}
 use Rattle.words.specs.declared.Refusal.TheVariants.{BeforeLastBreak, NotActive}
 use Rattle.words.specs.Refusal.{number_of, unless}
 use Rattle.words.proofs.Order.{unless_is, unless_not, is_unless, first_is, first_some, first_none, first_last}
@@ -21,7 +19,6 @@ use Rattle.rules.specs.declared.Table.{Table}
 use Rattle.rules.specs.Limits.{max_heads}
 use Rattle.rules.specs.Table.{is_head, table_fits}
 use Rattle.rules.specs.State.{no_head, phase_of}
-use Rattle.rules.specs.contracts.Phase.{the_type}
 use Rattle.rules.proofs.Each.{and_true, between_is}
 use Rattle.rules.proofs.Checks.{head_at, slot_low, slot_high, slot_in}
 use Rattle.rules.proofs.Meaning.{table_meets}
@@ -30,14 +27,12 @@ use Rattle.book.specs.Breaks.{active, clock_refusal, head_refusal, admit_refusal
 
 -- ---- whether a head is active
 
-idle : (p : Phase) → OneOf (0 ∷ 1 ∷ 2 ∷ []) (tag_of the_type p) → false ≡ active p
+idle : (p : Phase) → ((k : ℕ) → p ≡ Active k → ⊥) → false ≡ active p
 unfolding active
 idle Init o = refl
 idle Listen o = refl
 idle Coldstart o = refl
-idle (Active k) (inl e) = absurd (omega arith)
-idle (Active k) (inr (inl e)) = absurd (omega arith)
-idle (Active k) (inr (inr e)) = absurd (omega arith)
+idle (Active k) o = absurd (o k refl)
 
 module _ (t : Table) (s : State) (i : ℕ) where
   pub below_heads : i < 1 → false ≡ (is_head t i && active (phase_of s i))
@@ -54,7 +49,7 @@ module _ (t : Table) (s : State) (i : ℕ) where
     unfolding active
     head_active k e = sym (ap active e) ∙ of_phase
 
-    pub head_idle : OneOf (0 ∷ 1 ∷ 2 ∷ []) (tag_of the_type (get_or s.heads (i - 1) no_head).phase) → false ≡ (is_head t i && active (phase_of s i))
+    pub head_idle : ((k : ℕ) → (get_or s.heads (i - 1) no_head).phase ≡ Active k → ⊥) → false ≡ (is_head t i && active (phase_of s i))
     head_idle o = idle (get_or s.heads (i - 1) no_head).phase o ∙ of_phase
 
 -- an active head is one of the table's
