@@ -1,9 +1,9 @@
 -- A step leaves nothing due at the heads below the one that moved: the search need not start at head 1 again.
-use mathlib.Core.Path.{◌≡◌, refl, sym, ap, subst, ◌∙◌}
+use mathlib.Core.Path.{◌≡◌, refl, sym, ap, ◌∙◌}
 use mathlib.Core.Bool.{Bool, true, false}
 use mathlib.Core.Logic.{◌⊎◌, inl, inr}
 use mathlib.Core.List.{List, [], ◌∷◌, ◌++◌}
-use Prim.Native.Nat.{ℕ, zero, suc, ◌+◌, ◌-◌, ◌≤◌, ◌<◌}
+use Prim.Native.Nat.{ℕ, zero, suc, ◌≤◌, ◌<◌}
 use native.Mathlib.Omega.{arith}
 use lib.Dec.{eqb}
 use Rattle.words.specs.declared.Step.{Step}
@@ -15,9 +15,7 @@ use Rattle.rules.specs.declared.State.{State}
 use Rattle.rules.specs.declared.Table.{Table}
 use Rattle.rules.specs.Limits.{max_heads}
 use Rattle.rules.specs.Calendar.{left, taken, hear_due}
-use Rattle.rules.specs.State.{head_of}
 use Rattle.rules.specs.Step.{timer_due, sends, timer, hear, moved}
-use Rattle.rules.specs.Conditions.{Hears}
 use Rattle.rules.proofs.Each.{same_or_not, less_or_not, not_both, no}
 use Rattle.rules.proofs.Meaning.{hear_due_is, is_hear_due, hearer_waits}
 use Rattle.rules.proofs.Moves.{put_other, left_other, left_frame, taken_frame, send_quiet, send_waiting, sends_none, sends_some}

@@ -75,9 +75,9 @@ module _ (s : State) (es : List ℕ) (r : es ≡ timeouts s.heads) (k : ℕ) whe
   pub quiet_of : due_to es s.clock s.calendar k ≡ [] → open_to s k ≡ []
   quiet_of e = sym beside ∙ e
 
-  pub first_refusal : (x : Step) → x ≡ first_or Advance (due_to es s.clock s.calendar k) → x ≡ first_due s k
+  pub first_found : (x : Step) → x ≡ first_or Advance (due_to es s.clock s.calendar k) → x ≡ first_due s k
   unfolding first_due
-  first_refusal x e = e ∙ ap (first_or Advance) beside
+  first_found x e = e ∙ ap (first_or Advance) beside
 
 module _ (es : List ℕ) (clock : ℕ) (c : Calendar) where
   -- what is first at heads 1 to k is first at heads 1 to n

@@ -8,18 +8,15 @@ use lib.ListN.{length, take, drop}
 use Rattle.words.specs.declared.Step.{Step}
 use Rattle.words.specs.declared.Step.TheVariants.{Advance}
 use Rattle.words.specs.declared.Refusal.TheVariants.{ShortRoom}
-use Rattle.words.specs.Refusal.{number_of}
 use Rattle.rules.specs.declared.State.{State}
 use Rattle.rules.specs.declared.Table.{Table}
 use Rattle.rules.specs.Table.{table_fits}
 use Rattle.rules.specs.State.{state_fits}
 use Rattle.rules.specs.Limits.{ceiling}
 use Rattle.rules.specs.Step.{next_instant}
-use Rattle.rules.specs.Judge.{record_refusal}
 use Rattle.rules.proofs.Meaning.{table_meets, state_meets}
 use Rattle.runs.specs.declared.listing.Pairs.{Pairs}
 use Rattle.runs.specs.Open.{only_if, open_to, open_steps, step_bytes}
-use Rattle.rules.specs.declared.Written.{Written}
 use Rattle.rules.specs.Room.{write_refusal, Wrote}
 use Rattle.rules.proofs.Rooms.{write_fits, wrote_short, wrote_image}
 use Rattle.runs.specs.Listing.{list_image}

@@ -1,7 +1,5 @@
 use mathlib.Core.Path.{refl, sym, ◌∙◌}
-use mathlib.Core.Bool.{true}
-use mathlib.Core.Logic.{inl, inr, ⊎_elim}
-use Prim.Native.Nat.{◌+◌, ◌-◌, ◌<◌}
+use Prim.Native.Nat.{◌+◌, ◌<◌}
 use native.Mathlib.Omega.{arith}
 use lib.ListN.{length}
 use mir.Val.{Fits}
@@ -11,6 +9,7 @@ use Rattle.rules.proofs.Meaning.{table_meets}
 use Rattle.steps.proofs.Parts.{place_below, Goes, goes_advance, goes_timer, goes_hear, goes_still, sends_mid, silent_mid, same_advance, same_timer, same_hear, timer_sender, hear_sender}
 use Rattle.runs.proofs.Laws.{still_fits, run_on, run_refused, run_odd, run_done}
 use borrow.Author.Rules.{rules}
+use Rattle.runs.proofs.given.run_given_fit.Goals.{in-Advance+in-Accepted, in-Timer+in-Accepted-v, in-Hear+in-Accepted-v-2+then-heeds, in-Hear+in-Accepted-v-2+else-heeds, then-kind-ne0, else-kind-ne0}
 use Rattle.runs.proofs.given.run_given_fit.Goals as goal
 
 pub loop-k-init : goal.loop-k-init
@@ -88,10 +87,14 @@ overflow_add-k-in-loop-k-2 c = let w = c.loop-k in let n = length c.args.pairs.n
 pub loop-k-preserved : goal.loop-k-preserved
 loop-k-preserved c = let w = c.loop-k in let f = c.requires.0 in
     let y : Goes c.args.t w.current c.read-x.result c.match-x.current c.match-x.all = elim c.match-x.branch [
-      | inl a ↦ goes_advance _ _ f w.invariant.3 _ w.invariant.4 _ _ _ a.1.given.1 _ a.3.ensures (accepted_zero a.4.result _ a.4.ensures a.6.given.1) a.7 a.8
-      | inr (inl a) ↦ goes_timer _ _ f w.invariant.3 _ w.invariant.4 _ _ _ _ _ a.3.ensures a.1.given.1 (accepted_zero a.5.result _ a.5.ensures a.7.given.1) _ a.8.ensures _ (⊎_elim (λ b. sends_mid c.args.t w.current a.9.current a.8.result a.1.given.0.0 b.0.taken _ b.1.ensures b.2) (λ b. silent_mid c.args.t w.current a.9.current a.8.result a.1.given.0.0 b.0.left b.1) a.9.came) _ a.10.ensures a.11 a.12
-      | inr (inr (inl a)) ↦ goes_hear _ _ f w.invariant.3 _ w.invariant.4 _ _ _ _ _ a.6.ensures a.1.given.1 (accepted_zero a.3.result _ a.3.ensures a.5.given.1) _ a.8.ensures _ a.11.ensures a.12 a.13
-      | inr (inr (inr a)) ↦ goes_still _ _ f w.invariant.3 _ w.invariant.4 _ _ _ _ _ a.6.ensures a.1.given.1 (accepted_zero a.3.result _ a.3.ensures a.5.given.1) _ a.8.ensures (sym a.9.ensures ∙ a.10.left) a.11 a.12
+        in-Advance+in-Accepted a ↦ goes_advance _ _ f w.invariant.3 _ w.invariant.4 _ _ _ a.in-Advance.is _ a.instant-next.ensures (accepted_zero a.verdict-v.result _ a.verdict-v.ensures a.in-Accepted.is) a.current-is a.all-is
+      | in-Timer+in-Accepted-v a ↦ goes_timer _ _ f w.invariant.3 _ w.invariant.4 _ _ _ _ _ a.place-at.ensures a.in-Timer.is (accepted_zero a.verdict-v-in-Timer.result _ a.verdict-v-in-Timer.ensures a.in-Accepted-v.is) _ a.timer_frame-kind.ensures _
+          (elim a.if-kind-ne0.branch [
+            then-kind-ne0 b ↦ sends_mid c.args.t w.current a.if-kind-ne0.current a.timer_frame-kind.result a.in-Timer.i b.if-kind-ne0.true _ b.send-after.ensures b.current-is
+          | else-kind-ne0 b ↦ silent_mid c.args.t w.current a.if-kind-ne0.current a.timer_frame-kind.result a.in-Timer.i b.if-kind-ne0.false b.current-is
+          ]) _ a.timer_head-moved.ensures a.current-is a.all-is
+      | in-Hear+in-Accepted-v-2+then-heeds a ↦ goes_hear _ _ f w.invariant.3 _ w.invariant.4 _ _ _ _ _ a.place-at-in-Hear.ensures a.in-Hear.is (accepted_zero a.verdict-v-in-Hear.result _ a.verdict-v-in-Hear.ensures a.in-Accepted-v-2.is) _ a.left-after.ensures _ a.hear_head-moved.ensures a.current-is a.all-is
+      | in-Hear+in-Accepted-v-2+else-heeds a ↦ goes_still _ _ f w.invariant.3 _ w.invariant.4 _ _ _ _ _ a.place-at-in-Hear.ensures a.in-Hear.is (accepted_zero a.verdict-v-in-Hear.result _ a.verdict-v-in-Hear.ensures a.in-Accepted-v-2.is) _ a.left-after.ensures (sym a.heeds.ensures ∙ a.if-heeds.false) a.current-is a.all-is
     ] in
     (search rules, w.invariant.1, search rules, still_fits _ _ _ _ f w.invariant.3 y.accepted y.moves, y.beside, run_on _ _ _ w.k c.args.pairs.now w.invariant.5 (search rules) _ c.read-x.ensures _ y.moves y.accepted)
 

@@ -1,5 +1,4 @@
 use mathlib.Core.Path.{◌≡◌}
-use Prim.Native.Nat.{◌-◌}
 use native.Mathlib.Omega.{arith}
 use Rattle.runs.specs.Open.{open_to}
 use Rattle.runs.proofs.Gathers.{holds_none, held_to, held_more, held_next}

@@ -1,4 +1,3 @@
-use borrow.Author.Tests.{not-true, not-false}
 use Rattle.runs.proofs.Gathers.{adds_none, adds_one}
 use borrow.Author.Rules.{rules}
 use Rattle.runs.proofs.listing.with_step.Goals as goal
