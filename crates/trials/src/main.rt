@@ -2,7 +2,7 @@
 // left out (the file stdin beside src/), and this program prints it with the answers filled in; the expected sheet, worked out by hand
 // from the documents, is the file stdout, to which a check holds what is printed. A line's first letter says what is tried, its numbers
 // what with; any other line is only printed. It tries what rules, judge, the two crates of images, runs, book and single_beam offer to
-// everyone and judges nothing itself; words has the steps and the verdicts, io and libc are for the two channels.
+// everyone and judges nothing itself; words has the steps and the verdicts, io is for the two channels.
 #![tactic(auto)]
 
 mod books;
@@ -15,12 +15,14 @@ mod tries;
 
 use book::Book;
 use letters::{letter, line_end};
-use libc::STDIN_FILENO;
 use rules::{State, Table};
+
+// Standard input, by its number.
+const STDIN: i32 = 0;
 
 fn main() {
     let mut input = io::large_buffer();
-    let n = io::read_full(STDIN_FILENO, &mut input);
+    let n = io::read_full(STDIN, &mut input);
     sheet(&input[..n]);
 }
 

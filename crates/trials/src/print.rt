@@ -2,18 +2,17 @@
 ghost use Rattle.std.specs.Prelude.{◌<◌};
 
 use crate::same::{is_blank, same_state};
-use libc::STDOUT_FILENO;
 use rules::{Calendar, Head, Judged, State, Written};
 use table_images::TableRead;
 use words::Verdict;
 
 pub fn text(bytes: &[u8]) {
-    io::write_all(STDOUT_FILENO, bytes);
+    io::write_all(STDOUT, bytes);
 }
 
 fn number(x: u64) {
     text(b" ");
-    io::print_decimal(STDOUT_FILENO, x);
+    io::print_decimal(STDOUT, x);
 }
 
 pub fn field(name: &[u8], x: u64) {
@@ -134,7 +133,7 @@ const TOLD: usize = 128;
 fn byte(k: usize, x: u8) {
     if k < TOLD {
         text(b" ");
-        io::print_hex(STDOUT_FILENO, x as u64, 2);
+        io::print_hex(STDOUT, x as u64, 2);
     }
 }
 

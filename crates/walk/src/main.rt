@@ -1,7 +1,7 @@
 // The program `walk` of document 01: a table image and step pairs on standard input, the listing on standard output. What a
 // listing is, is said in specs/; opening reads the input's table part, pieces makes the listing's bytes, and only this file reads
 // and writes. It judges nothing itself: it uses words, rules, judge, table_images and lines, octets and hearers in its
-// proofs, and io and libc for the two channels.
+// proofs, and io for the two channels.
 #![tactic(auto)]
 
 mod opening;
@@ -11,10 +11,14 @@ ghost use Rattle.std.specs.Prelude.{◌≤◌, length};
 ghost use Rattle.walk.specs.Listing.{input_most};
 ghost use Rattle.walk.specs.Pieces.{longest_line};
 
-use libc::{STDIN_FILENO, STDOUT_FILENO};
 use opening::start;
 use pieces::fill;
 use rules::{State, Table};
+
+// The two channels, by their numbers.
+const STDIN: i32 = 0;
+
+const STDOUT: i32 = 1;
 
 // Where a listing stands, before a step or its END line: the table and the state, the table's refusal or 0, the steps accepted so
 // far, and where in the input the next pair begins. The rest of the listing follows from it and the input.
@@ -38,7 +42,7 @@ pub struct Piece {
 
 fn main() {
     let mut input = io::large_buffer();
-    let n = io::read_full(STDIN_FILENO, &mut input);
+    let n = io::read_full(STDIN, &mut input);
     let mut room = io::large_buffer();
     print(&input[..n], &mut room);
 }
@@ -51,7 +55,7 @@ fn print(input: &[u8], room: &mut [u8])
     loop {
         let piece = fill(room, input, here);
         let bytes = piece.bytes;
-        if !io::write_all(STDOUT_FILENO, &room[..bytes]) {
+        if !io::write_all(STDOUT, &room[..bytes]) {
             return;
         }
         if piece.ended {
