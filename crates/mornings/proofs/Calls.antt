@@ -131,6 +131,7 @@ refused_changes b x n = record {
 }
   where
     none_released : (x : Call) → (refusal_of b x ≡ 0 → ⊥) → {number : ℕ} → Releases b x number → ⊥
+    none_released (break _ _ _) n f = elim f [ ]
     none_released (release k) n (accepted e) = n e
 
 break_changes : (t : Table) (s : State) (b : Book) (i : ℕ) → break_refusal t s b i ≡ 0 → Changes single_beam b (break t s i)

@@ -6,6 +6,9 @@ use rules::{Calendar, Head, Judged, State, Written};
 use table_images::TableRead;
 use words::Verdict;
 
+// Standard output, by its number.
+const STDOUT: i32 = 1;
+
 pub fn text(bytes: &[u8]) {
     io::write_all(STDOUT, bytes);
 }

@@ -21,7 +21,7 @@ use Rattle.rules.specs.declared.Judged.{Judged}
 use Rattle.rules.specs.declared.State.{State}
 use Rattle.rules.specs.State.{no_head, head_of, phase_number, slot_number, phase_of}
 use Rattle.rules.proofs.Each.{less_or_not}
-use Rattle.rules.specs.contracts.Head.{the_field}
+use Rattle.rules.specs.contracts.Head.{the_row}
 use Rattle.rules.specs.contracts.Judged as judged
 use Rattle.rules.specs.contracts.Phase as phase
 use Rattle.rules.specs.contracts.State as state
@@ -62,7 +62,7 @@ record Narrow (h : Head) : Type 0 where
   slot : slot_number h.phase < 2 ^ 8
   timeout : h.timeout < 2 ^ 32
 
-heads : (hs : List Head) (us : List Val) → shadow (each the_field.row.Denot the_field.row.own_val (map the_field.into hs) us) → (k : ℕ) → Narrow (get_or hs k no_head)
+heads : (hs : List Head) (us : List Val) → shadow (each the_row.Denot the_row.own_val hs us) → (k : ℕ) → Narrow (get_or hs k no_head)
 heads [] us g k = record { slot = lit< tt; timeout = lit< tt }
 heads (h ∷ hs) [] g k = absurd g
 heads (h ∷ hs) (u ∷ us) g zero = record { slot = slots h.phase _ g.0.1.1.0; timeout = g.0.1.1.1.0.1 }

@@ -16,16 +16,16 @@ pub slice_bounds-write_all-end : goal.slice_bounds-write_all-end
 slice_bounds-write_all-end c = c.fill-piece.ensures.0
 
 pub slice_bounds-write_all-end-in-loop-piece : goal.slice_bounds-write_all-end-in-loop-piece
-slice_bounds-write_all-end-in-loop-piece c = sym (length-take-le c.fill-piece.result.bytes c.fill-piece.new.0 c.fill-piece.ensures.0)
+slice_bounds-write_all-end-in-loop-piece c = sym (length-take-le c.fill-piece.result.bytes c.fill-piece.new.room c.fill-piece.ensures.0)
 
 pub shape_of-room-then-not-write_all : goal.shape_of-room-then-not-write_all
-shape_of-room-then-not-write_all c = c.fill-piece.auto.0 ∙ c.loop-piece.invariant.0
+shape_of-room-then-not-write_all c = c.fill-piece.auto.room ∙ c.loop-piece.invariant.0
 
 pub shape_of-room-then-piece : goal.shape_of-room-then-piece
-shape_of-room-then-piece c = c.fill-piece.auto.0 ∙ c.loop-piece.invariant.0
+shape_of-room-then-piece c = c.fill-piece.auto.room ∙ c.loop-piece.invariant.0
 
 pub loop-piece-smaller : goal.loop-piece-smaller
 loop-piece-smaller c = let g = c.fill-piece.ensures.1 in let w = c.loop-piece in ⊎_elim (λ e. not_both _ e c.if-piece.false) (λ h. omega (arith, g.within)) c.fill-piece.ensures.3
 
 pub loop-piece-preserved : goal.loop-piece-preserved
-loop-piece-preserved c = (c.fill-piece.auto.0 ∙ c.loop-piece.invariant.0, omega (arith, c.loop-piece.invariant.1, c.fill-piece.auto.0), c.fill-piece.ensures.1)
+loop-piece-preserved c = (c.fill-piece.auto.room ∙ c.loop-piece.invariant.0, omega (arith, c.loop-piece.invariant.1, c.fill-piece.auto.room), c.fill-piece.ensures.1)
