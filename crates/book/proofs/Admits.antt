@@ -1,8 +1,7 @@
 -- Which breaks a book admits, case by case and in the code's own terms: each return of a function cites one law.
 use mathlib.Core.Path.{◌≡◌, refl, sym, ap, ◌∙◌}
 use mathlib.Core.Bool.{true, false, ◌&&◌}
-use mathlib.Core.Logic.{inl, inr}
-use mathlib.Core.List.{[], ◌∷◌}
+use mathlib.Core.List.{[]}
 use Prim.Native.Nat.{ℕ, ◌-◌, ◌≤◌, ◌<◌}
 use native.Mathlib.Omega.{arith}
 use lib.Dec.{leb}

@@ -1,7 +1,7 @@
 -- The door's answers, case by case and in the code's own terms: each return of a function cites one law.
 use mathlib.Core.Path.{◌≡◌, refl, sym, ap, subst, ◌∙◌}
 use mathlib.Core.Bool.{true, false}
-use mathlib.Core.List.{List, [], ◌∷◌}
+use mathlib.Core.List.{List, []}
 use Prim.Native.Nat.{ℕ, ◌≤◌, min}
 use native.Mathlib.Omega.{arith}
 use Rattle.words.specs.declared.Step.{Step}
@@ -13,20 +13,19 @@ use Rattle.rules.specs.declared.Table.{Table}
 use Rattle.rules.specs.declared.Written.{Written}
 use Rattle.rules.specs.Limits.{max_heads}
 use Rattle.rules.specs.Room.{Wrote, write_refusal, bytes_written, room_after}
-use Rattle.rules.specs.Table.{numbers_fit, table_fits, table_refusal}
+use Rattle.rules.specs.Table.{numbers_fit, table_fits}
 use Rattle.rules.specs.State.{blank, fresh, state_fits}
 use Rattle.rules.specs.Judge.{record_refusal, step_refusal, state_after, refusal, judged}
-use Rattle.rules.specs.Step.{moved}
 use Rattle.rules.proofs.Meaning.{table_meets, state_meets}
 use Rattle.rules.proofs.Checks.{record_accepted, refusal_step}
 use Rattle.rules.proofs.Rooms.{write_unfit, wrote_none}
 use Rattle.octets.proofs.Cases.{or_none}
-use Rattle.table_images.specs.TableImage.{table_in, blank_table, read_table_refusal, read_table}
+use Rattle.table_images.specs.TableImage.{blank_table, read_table_refusal, read_table}
 use Rattle.table_images.proofs.TableRound.{read_table_fits}
-use Rattle.state_images.specs.StateImage.{state_in, read_state_refusal, read_state, state_image}
+use Rattle.state_images.specs.StateImage.{read_state_refusal, state_image}
 use Rattle.state_images.proofs.Cases.{read_unfit}
 use Rattle.state_images.proofs.StateRound.{read_state_fits}
-use Rattle.runs.specs.Run.{Outcome, stopped, onward, run, run_from}
+use Rattle.runs.specs.Run.{Outcome, stopped, run, run_from}
 use Rattle.runs.specs.Chosen.{longest_run, policy, policy_from}
 use Rattle.runs.proofs.Laws.{on_stops, on_goes, fit, still_fits}
 use Rattle.runs.proofs.Plays.{run_keeps}

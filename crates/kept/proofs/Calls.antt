@@ -12,7 +12,6 @@ use Rattle.rules.proofs.Each.{same_or_not, less_or_not, and_true, both}
 use Rattle.book.specs.declared.Entry.{Entry}
 use Rattle.book.specs.declared.Book.{Book}
 use Rattle.book.specs.Limits.{last_number}
-use Rattle.book.specs.Rows.{at}
 use Rattle.book.specs.Book.{no_entry, no_crossing, entry_at, number_in, last_crossing, place_of}
 use Rattle.book.specs.Calls.{new_entry, is_tail, one_more, more_tails, tailed, number_refusal, entry_refusal, entered, held_refusal, released}
 use Rattle.book.proofs.Rows.{at_put_same, at_put_other}

@@ -1,9 +1,7 @@
 -- What passing a record by value tells: a table has its sixty-four wake places and a state its sixty-four head places.
-use mathlib.Core.Path.{◌≡◌, sym, ◌∙◌}
+use mathlib.Core.Path.{◌≡◌}
 use mathlib.Core.List.{List}
-use Prim.Native.Nat.{ℕ}
-use lib.ListN.{length, length-map}
-use borrow.Author.Rules.{length_unmapped}
+use lib.ListN.{length}
 use mir.Val.{Val}
 use denote.Laws.{Is}
 use denote.Struct.Declared.{row}
@@ -12,7 +10,6 @@ use Rattle.rules.specs.declared.Table.{Table}
 use Rattle.rules.specs.Limits.{max_heads}
 use Rattle.rules.specs.contracts.State as state
 use Rattle.rules.specs.contracts.Table as table
-use Rattle.rules.specs.contracts.Head.{the_field}
 
 pub state_places : (s : State) (vs : List Val) → Is (row state.the_type) s vs → length s.heads ≡ max_heads
 state_places s vs p = p.1.1.1.1.1.0.1.0.1

@@ -16,7 +16,7 @@ use Rattle.rules.specs.declared.Calendar.{Calendar}
 use Rattle.rules.specs.declared.State.{State}
 use Rattle.rules.specs.declared.Table.{Table}
 use Rattle.rules.specs.Table.{round, offset, wake_of}
-use Rattle.rules.specs.Calendar.{coldstart_frame, i_frame, hears, left, send}
+use Rattle.rules.specs.Calendar.{coldstart_frame, i_frame, left, send}
 use Rattle.rules.specs.State.{phase_number, slot_number, head_in, head_of, put, phase_of, timeout_of, listen_wait, coldstart_wait}
 use Rattle.rules.specs.Step.{due, next_instant, advance, slot_after, timer_head, timer_frame, sends, timer, listener_wait, joined, hear_head, hear, moved}
 use Rattle.rules.specs.Conditions.{IsHead, TableMeets, Hears, PhaseMeets, StateMeets, a_timer, a_delivery, Enabled}

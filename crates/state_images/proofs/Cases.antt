@@ -1,7 +1,6 @@
 -- The state reader and writer, case by case and in the code's own terms: each return of a function cites one law.
 use mathlib.Core.Path.{◌≡◌, refl, sym, ◌∙◌}
 use mathlib.Core.Bool.{Bool, true, false}
-use mathlib.Core.Logic.{inl, inr}
 use mathlib.Core.List.{List}
 use Prim.Native.Nat.{ℕ, zero, suc, ◌+◌, ◌≤◌, ◌<◌}
 use native.Mathlib.Omega.{arith}
@@ -23,8 +22,7 @@ use Rattle.rules.specs.Table.{table_fits, table_refusal}
 use Rattle.rules.specs.State.{phase_number, slot_number, head_in, no_head, head_of, state_fits, state_refusal, blank}
 use Rattle.rules.specs.Judge.{record_refusal}
 use Rattle.rules.proofs.Meaning.{table_meets, state_meets}
-use Rattle.rules.proofs.Checks.{table_accepted, record_accepted, accepted_record}
-use Rattle.rules.proofs.Each.{either_or_not}
+use Rattle.rules.proofs.Checks.{table_accepted, accepted_record}
 use Rattle.octets.specs.Bytes.{bytes_of, number_at}
 use Rattle.octets.specs.Room.{stored}
 use Rattle.octets.specs.Fields.{in_bytes, joined, is_marked, count_in, places}

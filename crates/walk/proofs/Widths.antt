@@ -1,7 +1,7 @@
 -- No line is longer than `longest_line`: its numbers fit their types, so each has ten digits at most.
 use mathlib.Core.Path.{◌≡◌, ap}
 use mathlib.Core.Logic.{inl, inr}
-use mathlib.Core.List.{List, [], ◌∷◌, map}
+use mathlib.Core.List.{List, [], ◌∷◌}
 use Prim.Native.Nat.{ℕ, zero, suc, ◌*◌, ◌/◌, ◌^◌, ◌≤◌, ◌<◌}
 use native.Mathlib.Omega.{arith}
 use lib.Dec.{lit<}

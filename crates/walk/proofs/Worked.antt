@@ -9,7 +9,6 @@ use Rattle.rules.specs.Calendar.{quiet, hears, hear_due, settled, left, taken, s
 use Rattle.rules.specs.State.{head_of, put, listen_wait, coldstart_wait, phase_fits, head_fits, is_zero, place_fits, front_fits, state_fits, state_refusal, fresh}
 use Rattle.rules.specs.Step.{timer_due, due, least_timeout, next_instant, advance, slot_after, timer_head, timer_frame, sends, timer, listener_wait, hear_head, hear, moved}
 use Rattle.rules.specs.Judge.{name_refusal, due_refusal, last_refusal, step_refusal, state_after, refusal, judged}
-use Rattle.rules.specs.State.{fresh_or_blank, blank}
 use Rattle.octets.specs.Bytes.{number_at}
 use Rattle.octets.specs.Fields.{is_marked, places, or_blank}
 use Rattle.table_images.specs.TableImage.{table_in, read_table_refusal}

@@ -1,5 +1,4 @@
 use native.Mathlib.Omega.{arith}
-use Prim.Native.Nat.{◌-◌}
 use native.Mathlib.Nat.{sub_self}
 use Rattle.octets.proofs.Digits.{none_read, read_more, read_all, under_more, under_all, under_seven}
 use borrow.Author.Rules.{rules}

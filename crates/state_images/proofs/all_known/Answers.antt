@@ -1,8 +1,6 @@
 use mathlib.Core.Path.{refl, sym, ◌∙◌}
 use native.Mathlib.Omega.{arith}
-use mathlib.Core.Bool.{true}
-use Prim.Native.Nat.{suc, ◌-◌}
-use borrow.Author.Tests.{not-true, not-false}
+use Prim.Native.Nat.{suc}
 use Rattle.rules.specs.Each.{every}
 use Rattle.rules.proofs.Each.{every_more, every_fails, every_done}
 use Rattle.state_images.specs.StateImage.{head_place, known_at}

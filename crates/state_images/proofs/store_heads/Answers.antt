@@ -1,6 +1,5 @@
 use mathlib.Core.Path.{refl, ◌∙◌}
 use native.Mathlib.Omega.{arith}
-use Prim.Native.Nat.{◌-◌}
 use Rattle.rules.specs.State.{head_of}
 use Rattle.octets.specs.Room.{stored}
 use Rattle.octets.specs.Fields.{in_bytes, joined}

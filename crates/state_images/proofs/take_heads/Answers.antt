@@ -1,5 +1,4 @@
 use native.Mathlib.Omega.{arith}
-use Prim.Native.Nat.{◌-◌}
 use Rattle.rules.specs.State.{no_head}
 use Rattle.octets.specs.Fields.{places}
 use Rattle.octets.proofs.Rows.{places_none, places_more, done}

@@ -1,5 +1,4 @@
 use native.Mathlib.Omega.{arith}
-use Prim.Native.Nat.{◌-◌}
 use Rattle.octets.specs.Bytes.{number_at}
 use Rattle.octets.specs.Fields.{places}
 use Rattle.octets.proofs.Rows.{places_none, places_more, done}

@@ -1,6 +1,5 @@
 use mathlib.Core.Path.{refl, sym, ◌∙◌}
 use native.Mathlib.Omega.{arith}
-use Prim.Native.Nat.{◌-◌}
 use lib.Seq.{length-take-le}
 use mathlib.Core.Logic.{⊎_elim}
 use Rattle.rules.proofs.Each.{not_both}

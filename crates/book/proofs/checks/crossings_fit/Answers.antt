@@ -1,6 +1,4 @@
 use mathlib.Core.Path.{refl}
-use Prim.Native.Nat.{◌-◌}
-use borrow.Author.Tests.{not-true, not-false}
 use Rattle.rules.specs.Each.{every}
 use Rattle.book.proofs.Rules.{crossings_all, crossings_more, crossings_fail}
 use borrow.Author.Rules.{rules}

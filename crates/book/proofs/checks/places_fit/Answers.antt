@@ -1,9 +1,5 @@
 use mathlib.Core.Path.{refl}
-use Prim.Native.Nat.{◌-◌}
-use borrow.Author.Tests.{not-true, not-false}
-use mathlib.Core.Bool.{true}
 use Rattle.rules.specs.Each.{every}
-use Rattle.book.specs.Book.{entry_fits}
 use Rattle.book.proofs.Rules.{places_all, places_more, places_fail}
 use borrow.Author.Rules.{rules}
 use Rattle.book.proofs.checks.places_fit.Goals as goal

@@ -1,4 +1,3 @@
-use Prim.Native.Nat.{◌-◌}
 use native.Mathlib.Omega.{arith}
 use Rattle.book.proofs.Rules.{find_more, find_here, find_nowhere}
 use borrow.Author.Rules.{rules}

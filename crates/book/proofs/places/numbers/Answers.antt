@@ -1,5 +1,4 @@
 use mathlib.Core.Path.{refl}
-use Prim.Native.Nat.{◌-◌}
 use native.Mathlib.Omega.{arith}
 use Rattle.book.specs.Book.{no_entry, number_in}
 use Rattle.rules.proofs.Filled.{filled_more, filled_all}

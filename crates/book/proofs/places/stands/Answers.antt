@@ -1,5 +1,4 @@
 use mathlib.Core.Path.{refl}
-use Prim.Native.Nat.{◌-◌}
 use Rattle.rules.specs.Each.{some}
 use Rattle.book.proofs.Rules.{stands_more, stands_all}
 use borrow.Author.Rules.{rules}

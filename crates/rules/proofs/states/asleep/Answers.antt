@@ -1,7 +1,6 @@
 use borrow.Author.Rules.{rules}
 use mathlib.Core.Path.{refl}
 use native.Mathlib.Omega.{arith}
-use Prim.Native.Nat.{◌-◌}
 use Rattle.rules.specs.State.{head_in}
 use Rattle.rules.specs.declared.Phase.TheVariants.{Init}
 use Rattle.rules.proofs.Filled.{filled_more, filled_all}

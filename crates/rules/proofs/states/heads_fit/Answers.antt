@@ -1,11 +1,7 @@
-use borrow.Author.Tests.{not-true, not-false}
 use Rattle.rules.proofs.Each.{every_done}
 use borrow.Author.Rules.{rules}
 use mathlib.Core.Path.{refl}
-use mathlib.Core.Bool.{true}
-use Prim.Native.Nat.{◌-◌}
 use Rattle.rules.specs.Each.{every}
-use Rattle.rules.specs.State.{place_fits}
 use Rattle.rules.proofs.Checks.{wake_after, heads_more, heads_fail}
 use Rattle.rules.proofs.states.heads_fit.Goals as goal
 

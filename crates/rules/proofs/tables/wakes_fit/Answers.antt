@@ -1,11 +1,7 @@
-use borrow.Author.Tests.{not-true, not-false}
 use Rattle.rules.proofs.Each.{every_done}
 use borrow.Author.Rules.{rules}
 use mathlib.Core.Path.{refl}
-use mathlib.Core.Bool.{true}
-use Prim.Native.Nat.{◌-◌}
 use Rattle.rules.specs.Each.{every}
-use Rattle.rules.specs.Table.{wake_fits}
 use Rattle.rules.proofs.Checks.{wakes_more, wakes_fail}
 use Rattle.rules.proofs.tables.wakes_fit.Goals as goal
 

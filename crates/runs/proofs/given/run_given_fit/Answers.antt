@@ -87,11 +87,11 @@ overflow_add-k-in-loop-k-2 c = let w = c.loop-k in let n = length c.args.pairs.n
 pub loop-k-preserved : goal.loop-k-preserved
 loop-k-preserved c = let w = c.loop-k in let f = c.requires.0 in
     let y : Goes c.args.t w.current c.read-x.result c.match-x.current c.match-x.all = elim c.match-x.branch [
-        in-Advance+in-Accepted a ↦ goes_advance _ _ f w.invariant.3 _ w.invariant.4 _ _ _ a.in-Advance.is _ a.instant-next.ensures (accepted_zero a.verdict-v.result _ a.verdict-v.ensures a.in-Accepted.is) a.current-is a.all-is
+      | in-Advance+in-Accepted a ↦ goes_advance _ _ f w.invariant.3 _ w.invariant.4 _ _ _ a.in-Advance.is _ a.instant-next.ensures (accepted_zero a.verdict-v.result _ a.verdict-v.ensures a.in-Accepted.is) a.current-is a.all-is
       | in-Timer+in-Accepted-v a ↦ goes_timer _ _ f w.invariant.3 _ w.invariant.4 _ _ _ _ _ a.place-at.ensures a.in-Timer.is (accepted_zero a.verdict-v-in-Timer.result _ a.verdict-v-in-Timer.ensures a.in-Accepted-v.is) _ a.timer_frame-kind.ensures _
           (elim a.if-kind-ne0.branch [
-            then-kind-ne0 b ↦ sends_mid c.args.t w.current a.if-kind-ne0.current a.timer_frame-kind.result a.in-Timer.i b.if-kind-ne0.true _ b.send-after.ensures b.current-is
-          | else-kind-ne0 b ↦ silent_mid c.args.t w.current a.if-kind-ne0.current a.timer_frame-kind.result a.in-Timer.i b.if-kind-ne0.false b.current-is
+            | then-kind-ne0 b ↦ sends_mid c.args.t w.current a.if-kind-ne0.current a.timer_frame-kind.result a.in-Timer.i b.if-kind-ne0.true _ b.send-after.ensures b.current-is
+            | else-kind-ne0 b ↦ silent_mid c.args.t w.current a.if-kind-ne0.current a.timer_frame-kind.result a.in-Timer.i b.if-kind-ne0.false b.current-is
           ]) _ a.timer_head-moved.ensures a.current-is a.all-is
       | in-Hear+in-Accepted-v-2+then-heeds a ↦ goes_hear _ _ f w.invariant.3 _ w.invariant.4 _ _ _ _ _ a.place-at-in-Hear.ensures a.in-Hear.is (accepted_zero a.verdict-v-in-Hear.result _ a.verdict-v-in-Hear.ensures a.in-Accepted-v-2.is) _ a.left-after.ensures _ a.hear_head-moved.ensures a.current-is a.all-is
       | in-Hear+in-Accepted-v-2+else-heeds a ↦ goes_still _ _ f w.invariant.3 _ w.invariant.4 _ _ _ _ _ a.place-at-in-Hear.ensures a.in-Hear.is (accepted_zero a.verdict-v-in-Hear.result _ a.verdict-v-in-Hear.ensures a.in-Accepted-v-2.is) _ a.left-after.ensures (sym a.heeds.ensures ∙ a.if-heeds.false) a.current-is a.all-is

@@ -72,13 +72,13 @@ bounds-all-at-then-heeds c = let b = place_below c.in-Hear.i in let p = c.place-
 pub loop-taken-preserved : goal.loop-taken-preserved
 loop-taken-preserved c = let w = c.loop-taken in let x = first_found _ _ w.invariant.2 _ _ c.first_due-x.ensures.first in let f = c.requires.0 in
     let y : Takes c.args.t w.current c.first_due-x.result c.match-x.current c.match-x.all c.match-x.from = elim c.match-x.branch [
-        in-Advance+else-next-gt-CEILING a ↦ let z = policy_free _ _ f w.invariant.1 _ w.invariant.2 _ _ (a.instant-next.ensures ∙ clock_advance _ _ _ _ _ a.in-Advance.is) x a.if-next-gt-CEILING.false in
+      | in-Advance+else-next-gt-CEILING a ↦ let z = policy_free _ _ f w.invariant.1 _ w.invariant.2 _ _ (a.instant-next.ensures ∙ clock_advance _ _ _ _ _ a.in-Advance.is) x a.if-next-gt-CEILING.false in
           takes_advance _ _ _ _ _ _ (goes_advance _ _ f w.invariant.1 _ w.invariant.2 _ _ _ a.in-Advance.is _ a.instant-next.ensures (same_advance _ _ f w.invariant.1 _ a.in-Advance.is _ w.invariant.2 _ a.instant-next.ensures ∙ z) a.current-is a.all-is) a.from-is
       | in-Timer a ↦ let z = policy_due _ _ f w.invariant.1 _ w.invariant.2 _ _ (clock_timer _ _ _ _ _ _ a.in-Timer.is) x refl in
           takes_head _ _ _ _ _ _ f w.invariant.1 (goes_timer _ _ f w.invariant.1 _ w.invariant.2 _ _ _ _ _ a.place-at.ensures a.in-Timer.is (same_timer _ _ f w.invariant.1 _ _ _ a.place-at.ensures a.in-Timer.is ∙ z) _ a.timer_frame-kind.ensures _
           (elim a.if-kind-ne0.branch [
-            then-kind-ne0 b ↦ sends_mid c.args.t w.current a.if-kind-ne0.current a.timer_frame-kind.result a.in-Timer.i b.if-kind-ne0.true _ b.send-after.ensures b.current-is
-          | else-kind-ne0 b ↦ silent_mid c.args.t w.current a.if-kind-ne0.current a.timer_frame-kind.result a.in-Timer.i b.if-kind-ne0.false b.current-is
+            | then-kind-ne0 b ↦ sends_mid c.args.t w.current a.if-kind-ne0.current a.timer_frame-kind.result a.in-Timer.i b.if-kind-ne0.true _ b.send-after.ensures b.current-is
+            | else-kind-ne0 b ↦ silent_mid c.args.t w.current a.if-kind-ne0.current a.timer_frame-kind.result a.in-Timer.i b.if-kind-ne0.false b.current-is
           ]) _ a.timer_head-moved.ensures a.current-is a.all-is) _ _ (ap head_number a.in-Timer.is) a.place-at.ensures a.from-is (quiet_of _ _ w.invariant.2 _ c.first_due-x.ensures.quiet)
       | in-Hear+then-heeds a ↦ let z = policy_due _ _ f w.invariant.1 _ w.invariant.2 _ _ (clock_hear _ _ _ _ _ _ a.in-Hear.is) x refl in
           takes_head _ _ _ _ _ _ f w.invariant.1 (goes_hear _ _ f w.invariant.1 _ w.invariant.2 _ _ _ _ _ a.place-at-in-Hear.ensures a.in-Hear.is (same_hear _ _ f w.invariant.1 _ _ a.in-Hear.is ∙ z) _ a.left-after.ensures _ a.hear_head-moved.ensures a.current-is a.all-is) _ _ (ap head_number a.in-Hear.is) a.place-at-in-Hear.ensures a.from-is (quiet_of _ _ w.invariant.2 _ c.first_due-x.ensures.quiet)
@@ -92,6 +92,6 @@ pub returns : goal.returns
 returns c = let w = c.loop-taken in let f = c.requires.0 in
     c.stopped.ensures
     ∙ elim c.loop-taken-test.branch [
-        else-loop-taken-test z ↦ policy_done _ _ f w.invariant.1 _ _ w.invariant.5 (omega arith)
+      | else-loop-taken-test z ↦ policy_done _ _ f w.invariant.1 _ _ w.invariant.5 (omega arith)
       | then-loop-taken-test+in-Advance+then-next-gt-CEILING z ↦ policy_stuck _ _ f w.invariant.1 _ _ w.invariant.5 (omega arith) _ (first_found _ _ w.invariant.2 _ _ z.first_due-x.ensures.first) (policy_high _ _ f w.invariant.1 _ w.invariant.2 _ _ (z.instant-next.ensures ∙ clock_advance _ _ _ _ _ z.in-Advance.is) z.if-next-gt-CEILING.true)
     ]

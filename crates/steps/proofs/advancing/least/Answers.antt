@@ -1,5 +1,5 @@
 use mathlib.Core.Path.{ap, ◌∙◌}
-use Prim.Native.Nat.{ℕ, ◌-◌}
+use Prim.Native.Nat.{ℕ}
 use native.Mathlib.Omega.{arith}
 use Rattle.steps.specs.Parts as parts
 use Rattle.steps.proofs.Laws.{least_one, least_less, least_same}
@@ -16,8 +16,8 @@ loop-k-preserved c = (
   search rules,
   search rules,
   elim c.if-e-least.branch [
-    then-e-least w ↦ w.least-is ∙ least_less _ _ _ c.loop-k.invariant.3 w.if-e-least.true
-  | else-e-least w ↦ w.least-is ∙ least_same _ _ _ c.loop-k.invariant.3 w.if-e-least.false
+    | then-e-least w ↦ w.least-is ∙ least_less _ _ _ c.loop-k.invariant.3 w.if-e-least.true
+    | else-e-least w ↦ w.least-is ∙ least_same _ _ _ c.loop-k.invariant.3 w.if-e-least.false
   ],
 )
 

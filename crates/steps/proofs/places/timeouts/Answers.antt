@@ -1,7 +1,6 @@
 use Rattle.rules.proofs.Known.{state_places}
 use mathlib.Core.Path.{refl}
 use native.Mathlib.Omega.{arith}
-use Prim.Native.Nat.{◌-◌}
 use borrow.Author.Rules.{rules}
 use Rattle.rules.specs.State.{no_head}
 use Rattle.rules.proofs.Filled.{filled_more}

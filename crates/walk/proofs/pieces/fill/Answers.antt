@@ -1,6 +1,6 @@
 use mathlib.Core.Path.{refl, sym, ap, ◌∙◌}
 use native.Mathlib.Omega.{arith}
-use Prim.Native.Nat.{◌+◌, ◌-◌}
+use Prim.Native.Nat.{◌+◌}
 use Rattle.words.proofs.Order.{accepted_zero, refused_some}
 use Rattle.lines.specs.Line.{end_line}
 use Rattle.walk.specs.declared.Place.{Place}
