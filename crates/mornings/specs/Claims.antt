@@ -86,6 +86,6 @@ BookByCalls = (t : Table) (m : Bench) (xs : List Act) → (morning t m xs).book 
 abbrev pub MorningFits : Type 0
 MorningFits = (t : Table) (m : Bench) (xs : List Act) → state_fits t m.state ≡ true → state_fits t (morning t m xs).state ≡ true
 
--- and is in step after any morning from power_up, with any book
+-- and is in step after any morning from power-up, with any book
 abbrev pub MorningInStep : Type 0
 MorningInStep = (t : Table) (b : Book) (xs : List Act) → table_fits t ≡ true → InStep t (morning t record { state = fresh t; book = b } xs).state

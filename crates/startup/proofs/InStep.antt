@@ -1,4 +1,4 @@
--- Demand 3, proved: every state of every run from power_up is in step.
+-- Demand 3, proved: every state of every run from power-up is in step.
 use Prim.Native.Nat.{ℕ, zero, suc, ◌+◌, ◌≤◌}
 use mathlib.Core.Path.{◌≡◌, refl, sym, ap, subst, ◌∙◌}
 use mathlib.Core.Bool.{false}
@@ -45,7 +45,7 @@ module _ (t : Table) (F : TableMeets t) where
   fit : Fit (tab t)
   fit = let p = F.short in record { some = F.some_head; moving = F.propagation; short = omega arith; last = λ j k. wake_last t t.n j k.low k.high }
 
-  -- power_up is a start
+  -- power-up is a start
   good_fresh : Good (tab t) (view (fresh t))
   unfolding fresh
   good_fresh = good_start (tab t) (view (fresh t)) record {

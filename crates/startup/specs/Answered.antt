@@ -1,4 +1,4 @@
--- Demand 3 of what the library's run functions answer from power_up: `run` and `policy` are what their contracts cite (crate runs).
+-- Demand 3 of what the library's run functions answer from power-up: `run` and `policy` are what their contracts cite (crate runs).
 use Rattle.std.specs.Prelude.{◌≡◌, true, List, ℕ}
 use Rattle.rules.specs.declared.Table.{Table}
 use Rattle.rules.specs.Table.{table_fits}

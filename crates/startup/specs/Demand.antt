@@ -1,4 +1,4 @@
--- Demand 3: "From power_up, for every table within the limits, all heads obeying the rules, and every order of accepted steps: whenever nothing is due
+-- Demand 3: "From power-up, for every table within the limits, all heads obeying the rules, and every order of accepted steps: whenever nothing is due
 -- at the present tick, all active heads hold the same slot and the same instant for the next one; and with two heads or more, once the clock stands
 -- six rounds or more past the latest wake, every head is active." Proved in proofs/InStep.antt of each state of each run; whoever reads this file
 -- needs the rules beside it, and nothing else.
@@ -13,13 +13,13 @@ use Rattle.rules.specs.Step.{due}
 use Rattle.rules.specs.Judge.{refusal, judged}
 use Rattle.rules.specs.Conditions.{IsHead}
 
--- "From power_up, [..] every order of accepted steps": the steps taken, in their order, and the state they have led to. A step is accepted by the
+-- "From power-up, [..] every order of accepted steps": the steps taken, in their order, and the state they have led to. A step is accepted by the
 -- definition that the contract of the judged step cites, and leads to the state that this contract answers.
 pub data Run (t : Table) : List Step → State → Type 0 where
   power_up : Run t [] (fresh t)
   then : {xs : List Step} {s : State} → Run t xs s → (x : Step) → refusal t s x ≡ 0 → Run t (xs ++ (x ∷ [])) (judged t s x)
 
--- The same over any steps, given to the judged step one after another from power_up: one that is refused leaves the state as it is.
+-- The same over any steps, given to the judged step one after another from power-up: one that is refused leaves the state as it is.
 unfoldable pub played_from : Table → State → List Step → State
 played_from t s [] = s
 played_from t s (x ∷ xs) = played_from t (judged t s x) xs
