@@ -28,13 +28,6 @@ use Rattle.rules.specs.State.{head_in, no_head, head_of, phase_number, is_zero, 
 use Rattle.rules.proofs.Each.{same_or_not, both, and_true, either_or_not, no, not_both, every_more, every_fails}
 use Rattle.rules.proofs.Meaning.{table_meets, meet_numbers}
 
--- the flag of a test that is negated
-pub flag_no : (r x : Bool) → r ≡ x → r ≡ false → x ≡ false
-flag_no r x e n = sym e ∙ n
-
-pub flag_yes : (r x : Bool) → r ≡ x → r ≡ true → x ≡ true
-flag_yes r x e n = sym e ∙ n
-
 -- ---- places, by the index that the code has
 
 pub wake_at : (t : Table) (i : ℕ) → 1 ≤ i → wake_of t i ≡ get_or t.wakes (i - 1) 0

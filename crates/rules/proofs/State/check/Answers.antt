@@ -1,6 +1,6 @@
-use mathlib.Core.Path.{◌∙◌}
+use mathlib.Core.Path.{◌∙◌, sym}
 use Rattle.words.proofs.Order.{accepted_zero, refused_some}
-use Rattle.rules.proofs.Checks.{flag_no, flag_yes, accepted_table, record_table, record_state, record_accepted}
+use Rattle.rules.proofs.Checks.{accepted_table, record_table, record_state, record_accepted}
 use borrow.Author.Rules.{rules}
 use Rattle.rules.proofs.State.check.Goals as goal
 
@@ -11,7 +11,7 @@ pub fits-requires : goal.fits-requires
 fits-requires c = accepted_table _ (accepted_zero c.check-v.result _ c.check-v.ensures (search rules))
 
 pub returns-then-not-fits : goal.returns-then-not-fits
-returns-then-not-fits c = record_state _ _ (accepted_table _ (accepted_zero c.check-v.result _ c.check-v.ensures (search rules))) (flag_no _ _ c.fits.ensures c.if-not-fits.true)
+returns-then-not-fits c = record_state _ _ (accepted_table _ (accepted_zero c.check-v.result _ c.check-v.ensures (search rules))) (sym c.fits.ensures ∙ c.if-not-fits.true)
 
 pub returns : goal.returns
-returns c = record_accepted _ _ (accepted_table _ (accepted_zero c.check-v.result _ c.check-v.ensures (search rules))) (flag_yes _ _ c.fits.ensures c.if-not-fits.false)
+returns c = record_accepted _ _ (accepted_table _ (accepted_zero c.check-v.result _ c.check-v.ensures (search rules))) (sym c.fits.ensures ∙ c.if-not-fits.false)

@@ -4,7 +4,6 @@ use mathlib.Core.Path.{◌≡◌, sym, ◌∙◌}
 use native.Mathlib.Omega.{arith}
 use borrow.Author.Tests.{eqb-true, eq-eqb, leb-true, le-leb}
 use Rattle.rules.proofs.Each.{no, same_test, not_both}
-use Rattle.rules.proofs.Checks.{flag_no, flag_yes}
 use Rattle.rules.proofs.Meaning.{table_meets, frame_numbers, numbers_frame}
 use Rattle.rules.proofs.calendars.frame_fits.Goals as goal
 
@@ -12,7 +11,7 @@ pub within-requires : goal.within-requires
 within-requires c = let m = table_meets c.args.t c.requires in omega arith
 
 pub returns-then-not-within : goal.returns-then-not-within
-returns-then-not-within c = no (λ e. not_both _ (le-leb _ _ (frame_numbers _ _ _ e).hearers) (flag_no _ _ c.within.ensures c.if-not-within.true))
+returns-then-not-within c = no (λ e. not_both _ (le-leb _ _ (frame_numbers _ _ _ e).hearers) (sym c.within.ensures ∙ c.if-not-within.true))
 
 pub returns-then-c-lt-COLDSTART_FRAME : goal.returns-then-c-lt-COLDSTART_FRAME
 returns-then-c-lt-COLDSTART_FRAME c = no (λ e. let f = frame_numbers _ _ _ e in omega arith)
@@ -44,7 +43,7 @@ returns c = let k = c.args.c in
     same_test
     (λ e. let q : k.delivery - k.sent ≡ p = eqb-true _ _ e in
     numbers_frame _ _ _ record {
-      hearers = leb-true _ _ (flag_yes _ _ c.within.ensures c.if-not-within.false);
+      hearers = leb-true _ _ (sym c.within.ensures ∙ c.if-not-within.false);
       kind_low = omega arith;
       kind_high = omega arith;
       origin_low = omega arith;
