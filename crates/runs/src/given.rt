@@ -22,6 +22,7 @@ pub fn run_given(t: Table, s: State, pairs: &[u8]) -> Ran
 
 // The same on a table and a state that are known to fit. The state is kept in place, and its timeouts beside it, and each kind of
 // step stores only what it changes: a body that is a function of its own would copy the state twice for every step.
+#[tactic(auto, using(steps::proofs::Parts::place_below))]
 pub fn run_given_fit(t: Table, s: State, pairs: &[u8]) -> Ran
     requires { (table_fits t ≡ true) × (state_fits t s ≡ true) }
     ensures { told result ≡ run_from t s 0 pairs.now }

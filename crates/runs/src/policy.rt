@@ -36,6 +36,7 @@ pub fn run_policy_fit(t: Table, s: State, count: usize) -> Ran
 // The run itself, on a table and a state that fit, in place as a given run is. What the search finds is due, so it is done without
 // another test; only an advance can be stopped, by the ceiling. A step leaves nothing due at heads below the one that moved, so the
 // next search starts there.
+#[tactic(auto, using(steps::proofs::Parts::place_below))]
 fn policy_from(t: Table, s: State, count: usize) -> Ran
     requires { (table_fits t ≡ true) × (state_fits t s ≡ true) }
     ensures { told result ≡ policy_from t s 0 count }

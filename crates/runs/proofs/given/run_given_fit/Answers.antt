@@ -6,7 +6,7 @@ use mir.Val.{Fits}
 use mir.Syntax.{w64}
 use Rattle.words.proofs.Order.{accepted_zero, refused_some}
 use Rattle.rules.proofs.Meaning.{table_meets}
-use Rattle.steps.proofs.Parts.{place_below, Goes, goes_advance, goes_timer, goes_hear, goes_still, sends_mid, silent_mid, same_advance, same_timer, same_hear, timer_sender, hear_sender}
+use Rattle.steps.proofs.Parts.{Goes, goes_advance, goes_timer, goes_hear, goes_still, sends_mid, silent_mid, same_advance, same_timer, same_hear, timer_sender, hear_sender}
 use Rattle.runs.proofs.Laws.{still_fits, run_on, run_refused, run_odd, run_done}
 use borrow.Author.Rules.{rules}
 use Rattle.runs.proofs.given.run_given_fit.Goals.{in-Advance+in-Accepted, in-Timer+in-Accepted-v, in-Hear+in-Accepted-v-2+then-heeds, in-Hear+in-Accepted-v-2+else-heeds, then-kind-ne0, else-kind-ne0}
@@ -21,12 +21,6 @@ instant-next-requires c = let m = table_meets c.args.t c.requires.0 in omega ari
 pub returns-in_default : goal.returns-in_default
 returns-in_default c = let w = c.loop-k in let n = c.verdict-v.ensures ∙ same_advance _ _ c.requires.0 w.invariant.3 c.read-x.result c.in-Advance.is _ w.invariant.4 _ c.instant-next.ensures in c.stopped.ensures ∙ run_refused _ _ _ w.k c.args.pairs.now w.invariant.5 (search rules) _ c.read-x.ensures _ (n) (refused_some c.verdict-v.result _ _ (n) c.in_default.is)
 
-pub offset_bounds-current-at : goal.offset_bounds-current-at
-offset_bounds-current-at c = let b = place_below c.in-Timer.i in let p = c.place-at.ensures in omega arith
-
-pub bounds-current-at : goal.bounds-current-at
-bounds-current-at c = let b = place_below c.in-Timer.i in let p = c.place-at.ensures in omega arith
-
 pub returns-in_default-v : goal.returns-in_default-v
 returns-in_default-v c = let w = c.loop-k in let n = c.verdict-v-in-Timer.ensures ∙ same_timer _ _ c.requires.0 w.invariant.3 _ _ _ c.place-at.ensures c.in-Timer.is in c.stopped-in_default-v.ensures ∙ run_refused _ _ _ w.k c.args.pairs.now w.invariant.5 (search rules) _ c.read-x.ensures _ (n) (refused_some c.verdict-v-in-Timer.result _ _ (n) c.in_default-v.is)
 
@@ -36,47 +30,17 @@ send-after-requires c = let w = c.loop-k in let z = sym (same_timer _ _ c.requir
 pub timer_head-moved-requires : goal.timer_head-moved-requires
 timer_head-moved-requires c = let w = c.loop-k in let z = sym (same_timer _ _ c.requires.0 w.invariant.3 _ _ _ c.place-at.ensures c.in-Timer.is) ∙ accepted_zero c.verdict-v-in-Timer.result _ c.verdict-v-in-Timer.ensures (search rules) in timer_sender _ _ c.requires.0 w.invariant.3 _ _ c.in-Timer.is z
 
-pub offset_bounds-current-at-in-Timer : goal.offset_bounds-current-at-in-Timer
-offset_bounds-current-at-in-Timer c = let b = place_below c.in-Timer.i in let p = c.place-at.ensures in omega arith
-
-pub bounds-current-at-in-Timer : goal.bounds-current-at-in-Timer
-bounds-current-at-in-Timer c = let b = place_below c.in-Timer.i in let p = c.place-at.ensures in omega arith
-
-pub offset_bounds-all-at : goal.offset_bounds-all-at
-offset_bounds-all-at c = let b = place_below c.in-Timer.i in let p = c.place-at.ensures in omega arith
-
-pub bounds-all-at : goal.bounds-all-at
-bounds-all-at c = let b = place_below c.in-Timer.i in let p = c.place-at.ensures in omega arith
-
 pub verdict-v-requires-in-Hear : goal.verdict-v-requires-in-Hear
 verdict-v-requires-in-Hear c = let m = table_meets c.args.t c.requires.0 in m.heads
 
 pub returns-in_default-v-2 : goal.returns-in_default-v-2
 returns-in_default-v-2 c = let w = c.loop-k in let n = c.verdict-v-in-Hear.ensures ∙ same_hear _ _ c.requires.0 w.invariant.3 _ _ c.in-Hear.is in c.stopped-in_default-v-2.ensures ∙ run_refused _ _ _ w.k c.args.pairs.now w.invariant.5 (search rules) _ c.read-x.ensures _ (n) (refused_some c.verdict-v-in-Hear.result _ _ (n) c.in_default-v-2.is)
 
-pub offset_bounds-current-at-in-Hear : goal.offset_bounds-current-at-in-Hear
-offset_bounds-current-at-in-Hear c = let b = place_below c.in-Hear.i in let p = c.place-at-in-Hear.ensures in omega arith
-
-pub bounds-current-at-in-Hear : goal.bounds-current-at-in-Hear
-bounds-current-at-in-Hear c = let b = place_below c.in-Hear.i in let p = c.place-at-in-Hear.ensures in omega arith
-
 pub left-after-requires : goal.left-after-requires
 left-after-requires c = let w = c.loop-k in let z = sym (same_hear _ _ c.requires.0 w.invariant.3 _ _ c.in-Hear.is) ∙ accepted_zero c.verdict-v-in-Hear.result _ c.verdict-v-in-Hear.ensures (search rules) in let r = hear_sender _ _ c.requires.0 w.invariant.3 _ _ c.in-Hear.is z in omega arith
 
 pub hear_head-moved-requires : goal.hear_head-moved-requires
 hear_head-moved-requires c = let w = c.loop-k in let z = sym (same_hear _ _ c.requires.0 w.invariant.3 _ _ c.in-Hear.is) ∙ accepted_zero c.verdict-v-in-Hear.result _ c.verdict-v-in-Hear.ensures (search rules) in hear_sender _ _ c.requires.0 w.invariant.3 _ _ c.in-Hear.is z
-
-pub offset_bounds-current-at-then-heeds : goal.offset_bounds-current-at-then-heeds
-offset_bounds-current-at-then-heeds c = let b = place_below c.in-Hear.i in let p = c.place-at-in-Hear.ensures in omega arith
-
-pub bounds-current-at-then-heeds : goal.bounds-current-at-then-heeds
-bounds-current-at-then-heeds c = let b = place_below c.in-Hear.i in let p = c.place-at-in-Hear.ensures in omega arith
-
-pub offset_bounds-all-at-then-heeds : goal.offset_bounds-all-at-then-heeds
-offset_bounds-all-at-then-heeds c = let b = place_below c.in-Hear.i in let p = c.place-at-in-Hear.ensures in omega arith
-
-pub bounds-all-at-then-heeds : goal.bounds-all-at-then-heeds
-bounds-all-at-then-heeds c = let b = place_below c.in-Hear.i in let p = c.place-at-in-Hear.ensures in omega arith
 
 pub overflow_add-accepted : goal.overflow_add-accepted
 overflow_add-accepted c = let w = c.loop-k in let n = length c.args.pairs.now in let b : Fits w64 n = w.invariant.1 in let l : w.k + 1 < n = c.loop-k-test.true in let a = w.invariant.2 in let e : Fits w64 (w.accepted + 1) = omega arith in e

@@ -3,7 +3,7 @@ use native.Mathlib.Omega.{arith}
 use Rattle.words.specs.Pair.{head_number}
 use Rattle.rules.proofs.Meaning.{table_meets}
 use Rattle.steps.proofs.Laws.{clock_advance, clock_timer, clock_hear}
-use Rattle.steps.proofs.Parts.{place_below, goes_advance, goes_timer, goes_hear, goes_still, sends_mid, silent_mid, same_advance, same_timer, same_hear, timer_sender, hear_sender}
+use Rattle.steps.proofs.Parts.{goes_advance, goes_timer, goes_hear, goes_still, sends_mid, silent_mid, same_advance, same_timer, same_hear, timer_sender, hear_sender}
 use Rattle.runs.specs.Open.{open_to}
 use Rattle.runs.specs.Chosen.{policy_from}
 use Rattle.runs.proofs.Laws.{still_fits, quiet_beside, quiet_of, first_found, policy_free, policy_due, policy_high, Takes, takes_advance, takes_head, policy_on, policy_stuck, policy_done}
@@ -21,53 +21,17 @@ first_due-x-requires c = let m = table_meets c.args.t c.requires.0 in (c.loop-ta
 pub instant-next-requires : goal.instant-next-requires
 instant-next-requires c = let m = table_meets c.args.t c.requires.0 in omega arith
 
-pub offset_bounds-current-at : goal.offset_bounds-current-at
-offset_bounds-current-at c = let b = place_below c.in-Timer.i in let p = c.place-at.ensures in omega arith
-
-pub bounds-current-at : goal.bounds-current-at
-bounds-current-at c = let b = place_below c.in-Timer.i in let p = c.place-at.ensures in omega arith
-
 pub send-after-requires : goal.send-after-requires
 send-after-requires c = let w = c.loop-taken in let x = first_found _ _ w.invariant.2 _ _ c.first_due-x.ensures.first in let z = policy_due _ _ c.requires.0 w.invariant.1 _ w.invariant.2 _ _ (clock_timer _ _ _ _ _ _ c.in-Timer.is) x refl in timer_sender _ _ c.requires.0 w.invariant.1 _ _ c.in-Timer.is z
 
 pub timer_head-moved-requires : goal.timer_head-moved-requires
 timer_head-moved-requires c = let w = c.loop-taken in let x = first_found _ _ w.invariant.2 _ _ c.first_due-x.ensures.first in let z = policy_due _ _ c.requires.0 w.invariant.1 _ w.invariant.2 _ _ (clock_timer _ _ _ _ _ _ c.in-Timer.is) x refl in timer_sender _ _ c.requires.0 w.invariant.1 _ _ c.in-Timer.is z
 
-pub offset_bounds-current-at-in-Timer : goal.offset_bounds-current-at-in-Timer
-offset_bounds-current-at-in-Timer c = let b = place_below c.in-Timer.i in let p = c.place-at.ensures in omega arith
-
-pub bounds-current-at-in-Timer : goal.bounds-current-at-in-Timer
-bounds-current-at-in-Timer c = let b = place_below c.in-Timer.i in let p = c.place-at.ensures in omega arith
-
-pub offset_bounds-all-at : goal.offset_bounds-all-at
-offset_bounds-all-at c = let b = place_below c.in-Timer.i in let p = c.place-at.ensures in omega arith
-
-pub bounds-all-at : goal.bounds-all-at
-bounds-all-at c = let b = place_below c.in-Timer.i in let p = c.place-at.ensures in omega arith
-
-pub offset_bounds-current-at-in-Hear : goal.offset_bounds-current-at-in-Hear
-offset_bounds-current-at-in-Hear c = let b = place_below c.in-Hear.i in let p = c.place-at-in-Hear.ensures in omega arith
-
-pub bounds-current-at-in-Hear : goal.bounds-current-at-in-Hear
-bounds-current-at-in-Hear c = let b = place_below c.in-Hear.i in let p = c.place-at-in-Hear.ensures in omega arith
-
 pub left-after-requires : goal.left-after-requires
 left-after-requires c = let w = c.loop-taken in let x = first_found _ _ w.invariant.2 _ _ c.first_due-x.ensures.first in let z = policy_due _ _ c.requires.0 w.invariant.1 _ w.invariant.2 _ _ (clock_hear _ _ _ _ _ _ c.in-Hear.is) x refl in let r = hear_sender _ _ c.requires.0 w.invariant.1 _ _ c.in-Hear.is z in omega arith
 
 pub hear_head-moved-requires : goal.hear_head-moved-requires
 hear_head-moved-requires c = let w = c.loop-taken in let x = first_found _ _ w.invariant.2 _ _ c.first_due-x.ensures.first in let z = policy_due _ _ c.requires.0 w.invariant.1 _ w.invariant.2 _ _ (clock_hear _ _ _ _ _ _ c.in-Hear.is) x refl in hear_sender _ _ c.requires.0 w.invariant.1 _ _ c.in-Hear.is z
-
-pub offset_bounds-current-at-then-heeds : goal.offset_bounds-current-at-then-heeds
-offset_bounds-current-at-then-heeds c = let b = place_below c.in-Hear.i in let p = c.place-at-in-Hear.ensures in omega arith
-
-pub bounds-current-at-then-heeds : goal.bounds-current-at-then-heeds
-bounds-current-at-then-heeds c = let b = place_below c.in-Hear.i in let p = c.place-at-in-Hear.ensures in omega arith
-
-pub offset_bounds-all-at-then-heeds : goal.offset_bounds-all-at-then-heeds
-offset_bounds-all-at-then-heeds c = let b = place_below c.in-Hear.i in let p = c.place-at-in-Hear.ensures in omega arith
-
-pub bounds-all-at-then-heeds : goal.bounds-all-at-then-heeds
-bounds-all-at-then-heeds c = let b = place_below c.in-Hear.i in let p = c.place-at-in-Hear.ensures in omega arith
 
 pub loop-taken-preserved : goal.loop-taken-preserved
 loop-taken-preserved c = let w = c.loop-taken in let x = first_found _ _ w.invariant.2 _ _ c.first_due-x.ensures.first in let f = c.requires.0 in
