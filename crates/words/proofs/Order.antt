@@ -7,9 +7,10 @@ use native.Mathlib.Omega.{arith}
 use lib.ListN.{get_or}
 use Rattle.words.specs.declared.Refusal.{Refusal}
 use Rattle.words.specs.declared.Refusal.TheVariants.{TableLength, TableMark, TableRange, StateLength, StateMark, StateRule, NoSuchStep, SomethingDue, TimerNotDue, NotHearing, PastCeiling, ShortRoom, OwnFrame, HoldRange, BeforeLastBreak, NotActive, NoFreePlace, NoSuchEntry, NoNumberLeft, BookRule}
-use Rattle.words.specs.declared.Verdict.{Verdict}
-use Rattle.words.specs.declared.Verdict.TheVariants.{Accepted, Refused}
+use Rattle.std.specs.Prelude.{Result, Ok, Err}
+use Rattle.words.specs.declared.answers.Refused.{Refused}
 use Rattle.words.specs.Refusal.{number_of, verdict_number, unless, first_refusal}
+use Rattle.words.specs.Answer.{answer_number, answer_record, Answers}
 
 -- ---- each number is one refusal's
 
@@ -67,17 +68,30 @@ number_some NoNumberLeft = omega arith
 number_some BookRule = omega arith
 
 -- a verdict is known by its number
-pub verdict_one : (v w : Verdict) → verdict_number v ≡ verdict_number w → v ≡ w
-verdict_one Accepted Accepted e = refl
-verdict_one Accepted (Refused y) e = absurd (omega (arith, number_some y))
-verdict_one (Refused x) Accepted e = absurd (omega (arith, number_some x))
-verdict_one (Refused x) (Refused y) e = ap Refused (number_one x y e)
+pub verdict_one : (v w : Result (Unit {0}) Refusal) → verdict_number v ≡ verdict_number w → v ≡ w
+verdict_one (Ok a) (Ok b) e = refl
+verdict_one (Ok a) (Err y) e = absurd (omega (arith, number_some y))
+verdict_one (Err x) (Ok a) e = absurd (omega (arith, number_some x))
+verdict_one (Err x) (Err y) e = ap Err (number_one x y e)
 
-pub accepted_zero : (v : Verdict) (n : ℕ) → verdict_number v ≡ n → v ≡ Accepted → n ≡ 0
-accepted_zero v n e a = sym e ∙ ap verdict_number a
+pub accepted_zero : {A : Type 0} → (v : Result A Refusal) (n : ℕ) (a : A) → verdict_number v ≡ n → v ≡ Ok a → n ≡ 0
+accepted_zero v n a e f = sym e ∙ ap verdict_number f
 
-pub refused_some : (v : Verdict) (n : ℕ) (x : Refusal) → verdict_number v ≡ n → v ≡ Refused x → n ≡ 0 → ⊥
+pub refused_some : {A : Type 0} → (v : Result A Refusal) (n : ℕ) (x : Refusal) → verdict_number v ≡ n → v ≡ Err x → n ≡ 0 → ⊥
 refused_some v n x e a z = let q : number_of x ≡ 0 = sym (ap verdict_number a) ∙ e ∙ z in omega (arith, number_some x)
+
+-- an answer is known by its number and its record
+refused_one : {A : Type 0} → (r q : Refused A) → r.why ≡ q.why → r.back ≡ q.back → r ≡ q
+refused_one r q e f = ap (λ w. record { why = w; back = r.back }) e ∙ ap (λ b. record { why = q.why; back = b }) f
+
+pub answer_one : {A : Type 0} → (r q : Result A (Refused A)) → answer_number r ≡ answer_number q → answer_record r ≡ answer_record q → r ≡ q
+answer_one (Ok a) (Ok b) e f = ap Ok f
+answer_one (Ok a) (Err y) e f = absurd (omega (arith, number_some y.why))
+answer_one (Err x) (Ok b) e f = absurd (omega (arith, number_some x.why))
+answer_one (Err x) (Err y) e f = ap Err (refused_one x y (number_one _ _ e) f)
+
+pub answers_one : {A : Type 0} → (r q : Result A (Refused A)) (n : ℕ) (a : A) → Answers r n a → Answers q n a → r ≡ q
+answers_one r q n a p e = answer_one r q (p.0 ∙ sym e.0) (p.1 ∙ sym e.1)
 
 -- ---- the first refusal of a row
 

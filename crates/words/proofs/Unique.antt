@@ -3,8 +3,8 @@ use mathlib.Core.Path.{◌≡◌, sym, ◌∙◌}
 use borrow.Fn.Kinds as K
 use Rattle.words.proofs.Refusal.number.Reads as refusal-number
 use Rattle.words.proofs.Refusal.number.Kinds as refusal-number-kinds
-use Rattle.words.proofs.Verdict.number.Reads as verdict-number
-use Rattle.words.proofs.Verdict.number.Kinds as verdict-number-kinds
+use Rattle.words.proofs.answers.verdict_number.Reads as verdict-number
+use Rattle.words.proofs.answers.verdict_number.Kinds as verdict-number-kinds
 use Rattle.words.proofs.Step.read.Reads as step-read
 use Rattle.words.proofs.Step.read.Kinds as step-read-kinds
 use Rattle.words.proofs.Step.kind.Reads as step-kind

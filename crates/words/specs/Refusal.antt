@@ -1,9 +1,7 @@
 -- Document 01, "Refusal numbers", and document 02, P4: the number of each refusal, and which of several is given.
-use Rattle.std.specs.Prelude.{Bool, cond, List, [], ◌∷◌, ℕ, zero, suc}
+use Rattle.std.specs.Prelude.{Bool, cond, List, [], ◌∷◌, ℕ, zero, suc, Result, Ok, Err}
 use Rattle.words.specs.declared.Refusal.{Refusal}
 use Rattle.words.specs.declared.Refusal.TheVariants.{TableLength, TableMark, TableRange, StateLength, StateMark, StateRule, NoSuchStep, SomethingDue, TimerNotDue, NotHearing, PastCeiling, ShortRoom, OwnFrame, HoldRange, BeforeLastBreak, NotActive, NoFreePlace, NoSuchEntry, NoNumberLeft, BookRule}
-use Rattle.words.specs.declared.Verdict.{Verdict}
-use Rattle.words.specs.declared.Verdict.TheVariants.{Accepted, Refused}
 
 abbrev pub number_of : Refusal → ℕ
 number_of TableLength = 1
@@ -27,10 +25,10 @@ number_of NoSuchEntry = 19
 number_of NoNumberLeft = 20
 number_of BookRule = 25
 
--- the number of a verdict: 0 where nothing is refused
-abbrev pub verdict_number : Verdict → ℕ
-verdict_number Accepted = 0
-verdict_number (Refused x) = number_of x
+-- the number of what a call answers, whatever it answers where it accepts: 0 where nothing is refused
+abbrev pub verdict_number : {A : Type 0} → Result A Refusal → ℕ
+verdict_number (Ok a) = 0
+verdict_number (Err x) = number_of x
 
 -- the number of a refusal that is given unless a test holds, otherwise 0
 unfoldable pub unless : Bool → Refusal → ℕ

@@ -5,22 +5,17 @@ ghost use Rattle.words.specs.Pair.{kind_of, head_number, step_of};
 use crate::Step;
 
 impl Step {
+    #[tactic(auto, unfolding(crate::specs::Pair::step_of))]
     // The step that a pair names. Any other pair reads as the timer of head 0, which every table refuses (7).
     pub fn read(kind: u8, i: u8) -> Step
         ensures { result ≡ step_of kind i }
     {
-        if kind == 1 {
-            return Step::Timer(i);
+        match kind {
+            0 if i == 0 => Step::Advance,
+            1 => Step::Timer(i),
+            2 => Step::Hear(i),
+            _ => Step::Timer(0),
         }
-        if kind == 2 {
-            return Step::Hear(i);
-        }
-        if kind == 0 {
-            if i == 0 {
-                return Step::Advance;
-            }
-        }
-        Step::Timer(0)
     }
 
     // The first byte of a step's pair.
@@ -40,8 +35,7 @@ impl Step {
     {
         match self {
             Step::Advance => 0,
-            Step::Timer(i) => i,
-            Step::Hear(i) => i,
+            Step::Timer(i) | Step::Hear(i) => i,
         }
     }
 }
