@@ -25,7 +25,7 @@ use Rattle.rules.specs.Judge.{step_refusal, record_refusal, refusal}
 use Rattle.rules.specs.Table.{is_head, wake_of, numbers_fit, wake_fits, table_fits, table_refusal}
 use Rattle.rules.specs.Calendar.{empty_calendar, calendar_fits}
 use Rattle.rules.specs.State.{head_in, no_head, head_of, phase_number, is_zero, listen_wait, coldstart_wait, phase_fits, head_fits, place_fits, front_fits, state_fits, state_refusal, blank, fresh, fresh_or_blank}
-use Rattle.rules.proofs.Each.{same_or_not, both, and_true, either_or_not, no, not_both, every_more, every_fails}
+use Rattle.rules.proofs.Each.{same_or_not, both, and_true, either_or_not, no, not_both}
 use Rattle.rules.proofs.Meaning.{table_meets, meet_numbers}
 
 -- ---- places, by the index that the code has
@@ -44,31 +44,13 @@ pub wake_after : (t : Table) (k : ℕ) → get_or t.wakes k 0 ≡ wake_of t (k +
 unfolding wake_of
 wake_after t k = rw add-one
 
--- ---- the wakes, place by place
+pub wake_place : (t : Table) (k : ℕ) → wake_fits t.n (k + 1) (get_or t.wakes k 0) ≡ wake_fits t.n (suc k) (wake_of t (suc k))
+unfolding wake_of
+wake_place t k = rw add-one
 
-module _ (t : Table) (k : ℕ) (r : Bool) (e : r ≡ wake_fits t.n (k + 1) (get_or t.wakes k 0)) where
-  wake_next : wake_fits t.n (suc k) (wake_of t (suc k)) ≡ r
-  unfolding wake_of
-  wake_next = rw (← add-one) (sym e)
-
-  pub wakes_more : every k (λ i. wake_fits t.n i (wake_of t i)) ≡ true → r ≡ true → every (k + 1) (λ i. wake_fits t.n i (wake_of t i)) ≡ true
-  wakes_more b y = every_more k (λ i. wake_fits t.n i (wake_of t i)) b (wake_next ∙ y)
-
-  pub wakes_fail : k < max_heads → r ≡ false → false ≡ every max_heads (λ i. wake_fits t.n i (wake_of t i))
-  wakes_fail l y = sym (every_fails max_heads (λ i. wake_fits t.n i (wake_of t i)) (suc k) (omega arith) (omega arith) (wake_next ∙ y))
-
--- ---- the heads, place by place
-
-module _ (t : Table) (clock : ℕ) (hs : List Head) (k : ℕ) (r : Bool) (e : r ≡ place_fits t clock (k + 1) (get_or hs k no_head)) where
-  place_next : place_fits t clock (suc k) (head_of hs (suc k)) ≡ r
-  unfolding head_of
-  place_next = rw (← add-one) (sym e)
-
-  pub heads_more : every k (λ i. place_fits t clock i (head_of hs i)) ≡ true → r ≡ true → every (k + 1) (λ i. place_fits t clock i (head_of hs i)) ≡ true
-  heads_more b y = every_more k (λ i. place_fits t clock i (head_of hs i)) b (place_next ∙ y)
-
-  pub heads_fail : k < max_heads → r ≡ false → false ≡ every max_heads (λ i. place_fits t clock i (head_of hs i))
-  heads_fail l y = sym (every_fails max_heads (λ i. place_fits t clock i (head_of hs i)) (suc k) (omega arith) (omega arith) (place_next ∙ y))
+pub head_place : (t : Table) (clock : ℕ) (hs : List Head) (k : ℕ) → place_fits t clock (k + 1) (get_or hs k no_head) ≡ place_fits t clock (suc k) (head_of hs (suc k))
+unfolding head_of
+head_place t clock hs k = rw add-one
 
 -- a row of three tests whose last fails
 pub and_no_2 : (a b : Bool) → (a && (b && false)) ≡ false

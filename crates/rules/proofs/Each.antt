@@ -1,12 +1,7 @@
 -- Laws of the tests over heads 1 to N, and of tests joined by "and" and "or".
-use mathlib.Core.Path.{◌≡◌, refl, sym, ◌∙◌}
-use mathlib.Core.Bool.{Bool, true, false, ◌&&◌, ◌||◌}
-use mathlib.Core.Logic.{◌⊎◌, inl, inr}
-use Prim.Native.Nat.{ℕ, zero, suc, ◌+◌, ◌≤◌, ◌<◌}
+use Rattle.std.proofs.Common.{◌≡◌, refl, sym, ◌∙◌, Bool, true, false, ◌&&◌, ◌||◌, ◌⊎◌, inl, inr, ℕ, zero, suc, ◌+◌, ◌-◌, ◌≤◌, ◌<◌, leb, List, [], ◌∷◌, length, get_or, add-one, arith}
+use Rattle.std.specs.List.{list_all, enumerate_from}
 use native.Mathlib.Decide.{ℕ_discrete, dec_lt}
-use native.Mathlib.Numerals.{add-one}
-use native.Mathlib.Omega.{arith}
-use lib.Dec.{leb}
 use borrow.Author.Tests.{leb-true, le-leb}
 use Rattle.rules.specs.Each.{between, every, some}
 
@@ -76,6 +71,34 @@ every_done n k f e a b = let q : k ≡ n = omega arith in sym (rw q at e)
 
 pub every_fails : (n : ℕ) (f : ℕ → Bool) (i : ℕ) → 1 ≤ i → i ≤ n → f i ≡ false → every n f ≡ false
 every_fails n f i a b e = elim (either_or_not (every n f)) [ inl x ↦ not_both (f i) (every_at n f x i a b) e | inr x ↦ x ]
+
+-- ---- a row of sixty-four places, tested in order, is every place tested by its number
+
+module _ {A : Type 0} (f : ℕ → A → Bool) (z : A) where
+  all_at : (m : ℕ) (xs : List A) → list_all (λ p. f p.0 p.1) (enumerate_from m xs) ≡ true → (k : ℕ) → k < length xs → f (m + k) (get_or xs k z) ≡ true
+  all_at m [] e k l = absurd (omega arith)
+  all_at m (x ∷ xs) e zero l = let q : m + 0 ≡ m = omega arith in rw q (and_true (f m x) _ e).0
+  all_at m (x ∷ xs) e (suc k) l = let q : m + suc k ≡ m + 1 + k = omega arith in rw q (all_at (m + 1) xs (and_true (f m x) _ e).1 k (omega arith))
+
+  all_of : (m : ℕ) (xs : List A) → ((k : ℕ) → k < length xs → f (m + k) (get_or xs k z) ≡ true) → list_all (λ p. f p.0 p.1) (enumerate_from m xs) ≡ true
+  all_of m [] g = refl
+  all_of m (x ∷ xs) g =
+      let q : m + 0 ≡ m = omega arith in
+      let first : f (m + 0) x ≡ true = g 0 (omega arith) in
+      both (rw q at first) (all_of (m + 1) xs (λ k l.
+      let r : m + suc k ≡ m + 1 + k = omega arith in
+      let next : f (m + suc k) (get_or xs k z) ≡ true = g (suc k) (omega arith) in
+      rw r at next))
+
+  pub all_every : (n : ℕ) (xs : List A) (g : ℕ → Bool) → length xs ≡ n → ((k : ℕ) → k < n → f k (get_or xs k z) ≡ g (suc k)) → list_all (λ p. f p.0 p.1) (enumerate_from 0 xs) ≡ every n g
+  all_every n xs g l h = same_test
+      (λ e. every_of n g (λ i a b.
+      let q : suc (i - 1) ≡ i = omega arith in
+      let p : 0 + (i - 1) ≡ i - 1 = omega arith in
+      let here : f (0 + (i - 1)) (get_or xs (i - 1) z) ≡ true = all_at 0 xs e (i - 1) (omega arith) in
+      let r : g (suc (i - 1)) ≡ true = sym (h (i - 1) (omega arith)) ∙ (rw p at here) in
+      rw q at r))
+      (λ e. all_of 0 xs (λ k b. let p : 0 + k ≡ k = omega arith in rw p (h k (omega arith) ∙ every_at n g e (suc k) (omega arith) (omega arith))))
 
 pub some_at : (n : ℕ) (f : ℕ → Bool) → some n f ≡ false → (i : ℕ) → 1 ≤ i → i ≤ n → f i ≡ false
 unfolding some

@@ -1,14 +1,14 @@
 -- Each contract leaves one answer: any two that it admits are equal. Stated of the contracts as the check reads them, not of a copy.
-use mathlib.Core.Path.{◌≡◌, sym, ◌∙◌}
-use Prim.Native.Nat.{ℕ}
+use Rattle.std.proofs.Common.{◌≡◌, sym, ap, ◌∙◌, ℕ, Result, Ok, Err, arith}
 use borrow.Fn.Kinds as K
 use Rattle.words.specs.Refusal.{verdict_number}
-use Rattle.words.proofs.Order.{verdict_one}
-use Rattle.rules.specs.declared.State.{State}
-use Rattle.rules.specs.declared.Judged.{Judged}
-use Rattle.rules.specs.declared.Written.{Written}
+use Rattle.words.specs.declared.Refusal.{Refusal}
+use Rattle.words.proofs.Order.{number_one, number_some, verdict_one, answers_one}
+use Rattle.rules.specs.Room.{bytes_of}
 use Rattle.rules.proofs.Table.check.Reads as table-check
 use Rattle.rules.proofs.Table.check.Kinds as table-check-kinds
+use Rattle.rules.proofs.Table.is_head.Reads as table-is_head
+use Rattle.rules.proofs.Table.is_head.Kinds as table-is_head-kinds
 use Rattle.rules.proofs.State.check.Reads as state-check
 use Rattle.rules.proofs.State.check.Kinds as state-check-kinds
 use Rattle.rules.proofs.State.fresh.Reads as state-fresh
@@ -24,22 +24,24 @@ use Rattle.rules.proofs.Phase.number.Kinds as phase-number-kinds
 use Rattle.rules.proofs.Phase.slot.Reads as phase-slot
 use Rattle.rules.proofs.Phase.slot.Kinds as phase-slot-kinds
 
--- a verdict's number and a state make one answer
-pub judged_one : (r q : Judged) {n : ℕ} {s : State} → (verdict_number r.verdict ≡ n) × (r.state ≡ s) → (verdict_number q.verdict ≡ n) × (q.state ≡ s) → r ≡ q
-judged_one r q p e = λ i. record { verdict = verdict_one r.verdict q.verdict (p.0 ∙ sym e.0) i; state = (p.1 ∙ sym e.1) i }
-
--- and so do a verdict's number and a count of bytes
-pub written_one : (r q : Written) {n bytes : ℕ} → verdict_number r.verdict ≡ n → verdict_number q.verdict ≡ n → r.bytes ≡ bytes → q.bytes ≡ bytes → r ≡ q
-written_one r q a b c d = λ i. record { verdict = verdict_one r.verdict q.verdict (a ∙ sym b) i; bytes = (c ∙ sym d) i }
+-- a number and a count of bytes make one answer of a writer
+pub written_one : (r q : Result ℕ Refusal) → verdict_number r ≡ verdict_number q → bytes_of r ≡ bytes_of q → r ≡ q
+written_one (Ok a) (Ok b) e f = ap Ok f
+written_one (Ok a) (Err y) e f = absurd (omega (arith, number_some y))
+written_one (Err x) (Ok b) e f = absurd (omega (arith, number_some x))
+written_one (Err x) (Err y) e f = ap Err (number_one x y e)
 
 pub table_check_one : (a : K.Dens tt table-check-kinds.ps) (r q : _) (s u : _) → table-check.Post tt a r s → table-check.Post tt a q u → r ≡ q
 table_check_one a r q s u p e = verdict_one r q (p ∙ sym e)
+
+pub table_is_head_one : (a : K.Dens tt table-is_head-kinds.ps) (r q : _) (s u : _) → table-is_head.Post tt a r s → table-is_head.Post tt a q u → r ≡ q
+table_is_head_one a r q s u p e = p ∙ sym e
 
 pub state_check_one : (a : K.Dens tt state-check-kinds.ps) (r q : _) (s u : _) → state-check.Post tt a r s → state-check.Post tt a q u → r ≡ q
 state_check_one a r q s u p e = verdict_one r q (p ∙ sym e)
 
 pub state_fresh_one : (a : K.Dens tt state-fresh-kinds.ps) (r q : _) (s u : _) → state-fresh.Post tt a r s → state-fresh.Post tt a q u → r ≡ q
-state_fresh_one a r q s u p e = judged_one r q p e
+state_fresh_one a r q s u p e = answers_one r q _ _ p e
 
 pub state_blank_one : (a : K.Dens tt state-blank-kinds.ps) (r q : _) (s u : _) → state-blank.Post tt a r s → state-blank.Post tt a q u → r ≡ q
 state_blank_one a r q s u p e = p ∙ sym e

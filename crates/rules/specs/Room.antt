@@ -1,8 +1,8 @@
 -- Lent room, before and after a writer of an image or of a step list: document 01, "Refusal numbers".
-use Rattle.std.specs.Prelude.{◌≡◌, cond, List, [], ◌∷◌, ◌++◌, ℕ, eqb, leb, length, drop}
+use Rattle.std.specs.Prelude.{◌≡◌, cond, List, [], ◌∷◌, ◌++◌, ℕ, eqb, leb, length, drop, Result, Ok, Err}
+use Rattle.words.specs.declared.Refusal.{Refusal}
 use Rattle.words.specs.declared.Refusal.TheVariants.{ShortRoom}
 use Rattle.words.specs.Refusal.{verdict_number, unless, first_refusal}
-use Rattle.rules.specs.declared.Written.{Written}
 
 -- "Writers and the step list: 3, 6 where a state is given, then 12": the refusal of what is given, then "12: room shorter than the image or step list"
 unfoldable pub write_refusal : ℕ → List ℕ → List ℕ → ℕ
@@ -16,9 +16,14 @@ bytes_written refusal image = cond (eqb refusal 0) (length image) 0
 unfoldable pub room_after : ℕ → List ℕ → List ℕ → List ℕ
 room_after refusal image room = cond (eqb refusal 0) (image ++ drop (length image) room) room
 
+-- how many bytes a writer answers that it wrote
+abbrev pub bytes_of : Result ℕ Refusal → ℕ
+bytes_of (Ok bytes) = bytes
+bytes_of (Err why) = 0
+
 -- a writer's answer and its room after, by the refusal of what it is given, its image and its room before
-abbrev pub Wrote : Written → ℕ → List ℕ → List ℕ → List ℕ → Type 0
+abbrev pub Wrote : Result ℕ Refusal → ℕ → List ℕ → List ℕ → List ℕ → Type 0
 Wrote w unfit image before after =
-    (verdict_number w.verdict ≡ write_refusal unfit image before)
-    × (w.bytes ≡ bytes_written (write_refusal unfit image before) image)
+    (verdict_number w ≡ write_refusal unfit image before)
+    × (bytes_of w ≡ bytes_written (write_refusal unfit image before) image)
     × (after ≡ room_after (write_refusal unfit image before) image before)

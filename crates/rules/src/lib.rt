@@ -8,20 +8,18 @@ mod phases;
 mod states;
 mod tables;
 
-use words::Verdict;
-
 // A head table: N heads, slots of S ticks, propagation P, and a wake tick for each head; wake places above N are zero.
-#[derive(Clone, Copy)]
+#[derive(Clone, Copy, PartialEq, Eq, Debug)]
 pub struct Table {
     pub n: u8,
     pub s: u16,
     pub p: u16,
-    pub wakes: [u32; 64],
+    pub wakes: [u32; State::MAX_HEADS],
 }
 
 // The one frame on the cable: who has still to hear it, its kind (1 coldstart frame, 2 i-frame), origin, sent and delivery tick.
 // With no hearer all of it is zero.
-#[derive(Clone, Copy)]
+#[derive(Clone, Copy, PartialEq, Eq, Debug)]
 pub struct Calendar {
     pub hearers: u64,
     pub kind: u8,
@@ -31,7 +29,7 @@ pub struct Calendar {
 }
 
 // An active head carries its slot; no other phase has one.
-#[derive(Clone, Copy)]
+#[derive(Clone, Copy, PartialEq, Eq, Debug)]
 pub enum Phase {
     Init,
     Listen,
@@ -39,31 +37,17 @@ pub enum Phase {
     Active(u8),
 }
 
-#[derive(Clone, Copy)]
+#[derive(Clone, Copy, PartialEq, Eq, Debug)]
 pub struct Head {
     pub phase: Phase,
     pub timeout: u32,
 }
 
 // Sixty-four head places, of which the first n are used; the others are zero.
-#[derive(Clone, Copy)]
+#[derive(Clone, Copy, PartialEq, Eq, Debug)]
 pub struct State {
     pub clock: u32,
     pub n: u8,
     pub calendar: Calendar,
-    pub heads: [Head; 64],
-}
-
-// A verdict beside a state: the next, the fresh or the read state where it accepts.
-#[derive(Clone, Copy)]
-pub struct Judged {
-    pub verdict: Verdict,
-    pub state: State,
-}
-
-// What a writer into lent room answers: how many bytes it wrote, 0 where it refuses.
-#[derive(Clone, Copy)]
-pub struct Written {
-    pub verdict: Verdict,
-    pub bytes: usize,
+    pub heads: [Head; State::MAX_HEADS],
 }

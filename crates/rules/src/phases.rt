@@ -21,9 +21,7 @@ impl Phase {
         ensures { result ≡ slot_number self }
     {
         match self {
-            Phase::Init => 0,
-            Phase::Listen => 0,
-            Phase::Coldstart => 0,
+            Phase::Init | Phase::Listen | Phase::Coldstart => 0,
             Phase::Active(k) => k,
         }
     }

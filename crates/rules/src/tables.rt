@@ -3,7 +3,7 @@ ghost use Rattle.std.specs.Prelude.{◌≡◌, ◌+◌, ◌≤◌};
 ghost use Rattle.words.specs.Refusal.{verdict_number};
 ghost use Rattle.rules.specs.Each.{every};
 ghost use Rattle.rules.specs.Limits.{max_heads};
-ghost use Rattle.rules.specs.Table.{round, offset, wake_of, numbers_fit, wake_fits, table_refusal};
+ghost use Rattle.rules.specs.Table.{is_head, round, offset, wake_of, numbers_fit, wake_fits, table_fits, table_refusal};
 ghost use Rattle.rules.specs.State.{listen_wait, coldstart_wait};
 
 use crate::{State, Table};
@@ -16,17 +16,31 @@ impl Table {
 
     pub const LATEST_WAKE: u32 = 1000000;
 
+    #[tactic(auto, unfolding(crate::specs::Table::table_refusal, words::specs::Refusal::unless))]
     // The table rules: accepted, or refused for a number outside its range (3).
     pub fn check(self) -> Verdict
         ensures { verdict_number result ≡ table_refusal self }
     {
-        if !numbers_fit(self.n, self.s, self.p) {
-            return Verdict::Refused(Refusal::TableRange);
+        if self.fits() {
+            Ok(())
+        } else {
+            Err(Refusal::TableRange)
         }
-        if !wakes_fit(self) {
-            return Verdict::Refused(Refusal::TableRange);
-        }
-        Verdict::Accepted
+    }
+
+    #[tactic(auto, unfolding(crate::specs::Table::table_fits), using(crate::proofs::Known::table_places))]
+    fn fits(self) -> bool
+        ensures { result ≡ table_fits self }
+    {
+        numbers_fit(self.n, self.s, self.p) && wakes_fit(self)
+    }
+
+    // Whether i is the number of a head.
+    #[tactic(auto, unfolding(crate::specs::Table::is_head))]
+    pub fn is_head(self, i: u8) -> bool
+        ensures { result ≡ is_head self i }
+    {
+        1 <= i && i <= self.n
     }
 
     // A round: N slots.
@@ -61,51 +75,36 @@ impl Table {
     }
 }
 
+#[tactic(auto, unfolding(crate::specs::Table::numbers_fit))]
 fn numbers_fit(n: u8, s: u16, p: u16) -> bool
     ensures { result ≡ numbers_fit n s p }
 {
-    if n < 1 {
-        return false;
-    }
-    if State::MAX_HEADS < n as usize {
-        return false;
-    }
-    if s < Table::SHORTEST_SLOT {
-        return false;
-    }
-    if Table::LONGEST_SLOT < s {
-        return false;
-    }
-    if p < 1 {
-        return false;
-    }
     // p may be any number of sixteen bits, so the double is taken in thirty-two
-    2 * (p as u32) < s as u32
+    1 <= n
+        && n as usize <= State::MAX_HEADS
+        && Table::SHORTEST_SLOT <= s
+        && s <= Table::LONGEST_SLOT
+        && 1 <= p
+        && 2 * (p as u32) < s as u32
 }
 
 fn wakes_fit(t: Table) -> bool
     ensures { result ≡ every max_heads (λ i. wake_fits t.n i (wake_of t i)) }
 {
-    let mut k: usize = 0;
-    while k < State::MAX_HEADS {
-        let w = t.wakes[k];
-        if !wake_fits(t.n, k as u8 + 1, w) {
-            return false;
-        }
-        k += 1;
-    }
-    true
+    t.wakes
+        .iter()
+        .enumerate()
+        .all(|(k, &wake)| wake_fits(t.n, k as u8 + 1, wake))
 }
 
 // The wake tick w of place i: in its range for a head, zero above N.
+#[tactic(auto, unfolding(crate::specs::Table::wake_fits))]
 fn wake_fits(n: u8, i: u8, w: u32) -> bool
     ensures { result ≡ wake_fits n i w }
 {
-    if n < i {
-        return w == 0;
+    if i <= n {
+        1 <= w && w <= Table::LATEST_WAKE
+    } else {
+        w == 0
     }
-    if w < 1 {
-        return false;
-    }
-    w <= Table::LATEST_WAKE
 }

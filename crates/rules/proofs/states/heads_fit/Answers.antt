@@ -1,22 +1,15 @@
-use Rattle.rules.proofs.Each.{every_done}
-use borrow.Author.Rules.{rules}
-use mathlib.Core.Path.{refl}
-use Rattle.rules.specs.Each.{every}
-use Rattle.rules.proofs.Checks.{wake_after, heads_more, heads_fail}
+use Rattle.std.proofs.Common.{rules, ◌∙◌, ◌+◌}
+use Rattle.std.proofs.lemmas.Iterator.{YieldsList-from_slice}
+use Rattle.std.proofs.lemmas.Iterator.Consumers.{YieldsList-from_enumerate}
+use Rattle.std.proofs.lemmas.Iterator.Search.{all_from_yields_List}
+use Rattle.rules.specs.State.{no_head, place_fits}
+use Rattle.rules.proofs.Each.{all_every}
+use Rattle.rules.proofs.Checks.{head_place}
 use Rattle.rules.proofs.states.heads_fit.Goals as goal
 
-pub loop-k-init : goal.loop-k-init
-unfolding every
-loop-k-init c = (search rules, refl)
-
-pub place_fits-requires : goal.place_fits-requires
-place_fits-requires c = (c.requires.0, wake_after _ _, search rules, search rules, search rules)
-
-pub returns-then-not-place_fits : goal.returns-then-not-place_fits
-returns-then-not-place_fits c = heads_fail _ _ _ _ _ c.place_fits.ensures (search rules) c.if-not-place_fits.true
-
-pub loop-k-preserved : goal.loop-k-preserved
-loop-k-preserved c = (search rules, heads_more _ _ _ _ _ c.place_fits.ensures c.loop-k.invariant.1 c.if-not-place_fits.false)
-
 pub returns : goal.returns
-returns c = every_done _ _ _ c.loop-k.invariant.1 (search rules) (search rules)
+returns c =
+    let t = c.args.t in
+    let s = c.args.s in
+    let seen = all_from_yields_List (λ p. place_fits t s.clock (p.0 + 1) p.1) _ _ _ c.all.ensures.ran (YieldsList-from_enumerate (YieldsList-from_slice s.heads (cc)) (cc)) (λ x b q k. search rules) in
+    seen ∙ all_every (λ k h. place_fits t s.clock (k + 1) h) no_head _ s.heads _ (search rules) (λ k l. head_place t s.clock s.heads k)

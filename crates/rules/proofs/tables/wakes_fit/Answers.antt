@@ -1,19 +1,14 @@
-use Rattle.rules.proofs.Each.{every_done}
-use borrow.Author.Rules.{rules}
-use mathlib.Core.Path.{refl}
-use Rattle.rules.specs.Each.{every}
-use Rattle.rules.proofs.Checks.{wakes_more, wakes_fail}
+use Rattle.std.proofs.Common.{rules, ◌∙◌, ◌+◌}
+use Rattle.std.proofs.lemmas.Iterator.{YieldsList-from_slice}
+use Rattle.std.proofs.lemmas.Iterator.Consumers.{YieldsList-from_enumerate}
+use Rattle.std.proofs.lemmas.Iterator.Search.{all_from_yields_List}
+use Rattle.rules.specs.Table.{wake_fits}
+use Rattle.rules.proofs.Each.{all_every}
+use Rattle.rules.proofs.Checks.{wake_place}
 use Rattle.rules.proofs.tables.wakes_fit.Goals as goal
 
-pub loop-k-init : goal.loop-k-init
-unfolding every
-loop-k-init c = (search rules, refl)
-
-pub returns-then-not-wake_fits : goal.returns-then-not-wake_fits
-returns-then-not-wake_fits c = wakes_fail _ _ _ c.wake_fits.ensures (search rules) c.if-not-wake_fits.true
-
-pub loop-k-preserved : goal.loop-k-preserved
-loop-k-preserved c = (search rules, wakes_more _ _ _ c.wake_fits.ensures c.loop-k.invariant.1 c.if-not-wake_fits.false)
-
 pub returns : goal.returns
-returns c = every_done _ _ _ c.loop-k.invariant.1 (search rules) (search rules)
+returns c =
+    let t = c.args.t in
+    let seen = all_from_yields_List (λ p. wake_fits t.n (p.0 + 1) p.1) _ _ _ c.all.ensures.ran (YieldsList-from_enumerate (YieldsList-from_slice t.wakes (cc)) (cc)) (λ x b q k. search rules) in
+    seen ∙ all_every (λ k w. wake_fits t.n (k + 1) w) 0 _ t.wakes _ (search rules) (λ k l. wake_place t k)
