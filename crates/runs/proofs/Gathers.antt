@@ -17,7 +17,7 @@ use Rattle.rules.specs.Step.{timer_due}
 use Rattle.runs.specs.declared.listing.Pairs.{Pairs}
 use Rattle.rules.specs.Calendar.{hear_due}
 use Rattle.runs.specs.Open.{only_if, open_at, open_to, step_bytes}
-use Rattle.runs.specs.Gathered.{most_bytes, gathered, Holds, Adds}
+use Rattle.runs.specs.Gathered.{most_bytes, no_pairs, Holds, Adds}
 
 -- ---- steps in bytes
 
@@ -49,13 +49,9 @@ to_short s (suc k) =
 
 -- ---- gathering
 
-pub holds_none : Holds (gathered (replicate most_bytes 0) 0) []
+pub holds_none : Holds no_pairs []
 unfolding step_bytes
 holds_none = record { places = length-replicate {A = ℕ} most_bytes 0; long = refl; same = refl }
-
-pub adds_none : (p : Pairs) (b : Bool) (x : Step) → b ≡ false → Adds p b x p
-unfolding only_if
-adds_none p b x e l h = rw (e, append-nil) h
 
 -- two stores at the end of what is used
 two_more : (b : List ℕ) (u a c : ℕ) → u + 2 ≤ length b → take (u + 2) (set (set b u a) (u + 1) c) ≡ take u b ++ (a ∷ c ∷ [])
@@ -64,17 +60,17 @@ two_more b u a c h =
     let n : length (take u b ++ (a ∷ c ∷ [])) ≡ u + 2 = length-append (take u b) (a ∷ c ∷ []) ∙ ap (λ (k : ℕ). k + 2) (length-take-le u b (omega arith)) in
     rw (e, sets-eq (a ∷ c ∷ []) b u h) (take_at (take u b ++ (a ∷ c ∷ [])) (drop (u + 2) b) (u + 2) n)
 
-pub adds_one : (bytes : List ℕ) (used : ℕ) (b : Bool) (x : Step) → b ≡ true → used + 2 ≤ most_bytes → (kind : ℕ) → kind ≡ kind_of x → (i : ℕ) → i ≡ head_number x
-    → Adds (gathered bytes used) b x (gathered (set (set bytes used kind) (used + 1) i) (used + 2))
-unfolding only_if step_bytes
-adds_one bytes used b x e r kind k i j l h =
+pub adds_one : (p : Pairs) (x : Step) → p.used + 2 ≤ most_bytes → (kind : ℕ) → kind ≡ kind_of x → (i : ℕ) → i ≡ head_number x
+    → Adds p x (record { bytes = set (set p.bytes p.used kind) (p.used + 1) i; used = p.used + 2 })
+unfolding step_bytes
+adds_one p x r kind k i j l h =
     let m = h.places in
     let n = h.long in
-    let o : step_bytes (l ++ only_if b x) ≡ step_bytes l ++ (kind_of x ∷ head_number x ∷ []) = rw e (bytes_append l (x ∷ [])) in
+    let o : step_bytes (l ++ (x ∷ [])) ≡ step_bytes l ++ (kind_of x ∷ head_number x ∷ []) = bytes_append l (x ∷ []) in
     record {
       places = simp length-set m;
       long = ap (λ (y : ℕ). y + 2) n ∙ sym (length-append (step_bytes l) (kind_of x ∷ head_number x ∷ [])) ∙ ap length (sym o);
-      same = two_more bytes used kind i (omega arith) ∙ rw (h.same, k, j) (sym o);
+      same = two_more p.bytes p.used kind i (omega arith) ∙ rw (h.same, k, j) (sym o);
     }
 
 -- what is gathered at k heads leaves room for the next
@@ -97,15 +93,3 @@ held_next p s k b e h = rw (add-one k) (rw (e, add-one k, append_assoc) at h)
 -- what is used has its place
 pub held_fits : (p : Pairs) (l : List Step) → Holds p l → p.used ≤ most_bytes
 held_fits p l h = omega (arith, h.places, sym (length-take p.used p.bytes) ∙ ap length h.same ∙ sym h.long)
-
--- ---- copying
-
-pub copy_none : (b r : List ℕ) → r ≡ take 0 b ++ drop 0 r
-copy_none b r = refl
-
-pub copy_more : (b r c : List ℕ) (k : ℕ) → k < length b → k < length r → c ≡ take k b ++ drop k r → set c k (get_or b k 0) ≡ take (k + 1) b ++ drop (k + 1) r
-copy_more b r c k l m e =
-    ap (λ (x : List ℕ). set x k (get_or b k 0)) (e ∙ ap (λ (x : List ℕ). take k b ++ x) (drop-cons r k 0 m))
-    ∙ set_at (take k b) (get_or r k 0) (drop (suc k) r) (get_or b k 0) k (length-take-le k b (omega arith))
-    ∙ sym (append_snoc (take k b) (get_or b k 0) (drop (suc k) r))
-    ∙ rw (add-one, take-suc b k 0)

@@ -6,3 +6,4 @@ pub mod Lists
 pub mod Plays
 pub mod Chooses
 pub mod Unique
+pub mod Stepping

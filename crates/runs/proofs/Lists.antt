@@ -20,7 +20,7 @@ use Rattle.runs.specs.Open.{only_if, open_to, open_steps, step_bytes}
 use Rattle.rules.specs.Room.{write_refusal, Wrote}
 use Rattle.rules.proofs.Rooms.{write_fits, wrote_short, wrote_image}
 use Rattle.runs.specs.Listing.{list_image}
-use Rattle.words.specs.declared.Verdict.TheVariants.{Accepted, Refused}
+use Rattle.std.specs.Prelude.{Ok, Err}
 use Rattle.steps.specs.Parts.{timeouts, instant}
 use Rattle.steps.proofs.Parts.{instant_is}
 use Rattle.runs.specs.Gathered.{Holds, Adds}
@@ -56,7 +56,8 @@ module _ (t : Table) (s : State) (f : table_fits t ≡ true) (g : state_fits t s
         let e = nothing_due l in
         subst (Holds p) (e ∙ sym (open_high t s m (state_meets t s m.heads g) e (rw is_next at z))) h
 
-    pub pairs_advance : p.used ≤ 0 → next ≤ ceiling → (u : Pairs) → Adds p true Advance u → Holds u (open_steps t s)
+    pub pairs_advance : p.used ≤ 0 → next ≤ ceiling → (u : Pairs) → Adds p Advance u → Holds u (open_steps t s)
+    unfolding only_if
     pairs_advance l z u k =
         let m = table_meets t f in
         let e = nothing_due l in
@@ -69,10 +70,10 @@ module _ (t : Table) (s : State) (room : List ℕ) (p : Pairs) (h : Holds p (ope
   unfolding list_image
   list_long = sym h.long
 
-  pub list_short : length room < p.used → Wrote record { verdict = Refused ShortRoom; bytes = 0 } 0 (list_image t s) room room
+  pub list_short : length room < p.used → Wrote (Err ShortRoom) 0 (list_image t s) room room
   list_short l = wrote_short 0 (list_image t s) room refl (omega (arith, list_long))
 
-  pub list_done : p.used ≤ length room → (after : List ℕ) → after ≡ take p.used p.bytes ++ drop p.used room → Wrote record { verdict = Accepted; bytes = p.used } 0 (list_image t s) room after
+  pub list_done : p.used ≤ length room → (after : List ℕ) → after ≡ take p.used p.bytes ++ drop p.used room → Wrote (Ok p.used) 0 (list_image t s) room after
   unfolding list_image
   list_done l after a =
       let none = write_fits 0 (list_image t s) room refl (omega (arith, list_long)) in

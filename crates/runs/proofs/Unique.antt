@@ -18,7 +18,7 @@ told_one : (r q : Ran) → told r ≡ told q → r ≡ q
 told_one r q e = λ i. record { state = (e i).state; accepted = (e i).accepted; verdict = verdict_one r.verdict q.verdict (ap (λ (o : Outcome). o.refusal) e) i }
 
 pub open_steps_one : (κs : Lfts 1) (a : K.Dens κs open-steps-kinds.ps) (r q : _) (s u : _) → open-steps.Post κs a r s → open-steps.Post κs a q u → (r ≡ q) × (s.1.1.0.now ≡ u.1.1.0.now)
-open_steps_one κs a r q s u p e = (written_one r q p.0 e.0 p.1 e.1, p.2 ∙ sym e.2)
+open_steps_one κs a r q s u p e = (written_one r q (p.0 ∙ sym e.0) (p.1 ∙ sym e.1), p.2 ∙ sym e.2)
 
 pub run_given_one : (κs : Lfts 1) (a : K.Dens κs run-given-kinds.ps) (r q : _) (s u : _) → run-given.Post κs a r s → run-given.Post κs a q u → r ≡ q
 run_given_one κs a r q s u p e = told_one r q (p ∙ sym e)

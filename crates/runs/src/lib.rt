@@ -14,6 +14,7 @@ use words::Verdict;
 mod given;
 mod listing;
 mod policy;
+mod run;
 mod search;
 
 pub use given::{run_given, run_given_fit};
@@ -21,7 +22,7 @@ pub use listing::{open_steps, open_steps_fit};
 pub use policy::{run_policy, run_policy_fit};
 
 // What a run answers: the state it came to, how many steps were accepted, and what stopped it.
-#[derive(Clone, Copy)]
+#[derive(Clone, Copy, PartialEq, Eq, Debug)]
 pub struct Ran {
     pub state: State,
     pub accepted: usize,
@@ -34,12 +35,12 @@ impl Ran {
 }
 
 // A run that ends here.
-fn stopped(s: State, accepted: usize, v: Verdict) -> Ran
-    ensures { told result ≡ stopped s accepted (verdict_number v) }
+fn stopped(state: State, accepted: usize, verdict: Verdict) -> Ran
+    ensures { told result ≡ stopped state accepted (verdict_number verdict) }
 {
     Ran {
-        state: s,
-        accepted: accepted,
-        verdict: v,
+        state,
+        accepted,
+        verdict,
     }
 }

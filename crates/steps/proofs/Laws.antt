@@ -1,5 +1,5 @@
 -- The code's own words for two definitions: the least of the first timeouts as a fold, and the frame that a timer sends as an Option.
-use Rattle.std.proofs.Common.{◌≡◌, refl, sym, ap, ◌∙◌, ℕ, zero, suc, ◌+◌, ◌-◌, ◌≤◌, ◌<◌, min, List, [], ◌∷◌, length, get_or, take, drop, fold, slice_range, arith, length-drop, take-suc}
+use Rattle.std.proofs.Common.{◌≡◌, refl, sym, ℕ, zero, suc, ◌+◌, ◌-◌, ◌≤◌, ◌<◌, min, List, [], ◌∷◌, length, get_or, take, drop, fold, slice_range, arith, length-drop, take-suc}
 use Rattle.std.proofs.lemmas.Grind.{get_or_after_one}
 use Rattle.std.proofs.lemmas.List.Sums.{fold-append}
 use Rattle.rules.specs.declared.Calendar.{Calendar}

@@ -1,6 +1,6 @@
 -- Together the parts are the step: on a table and a state that fit, what they refuse and what they make is what the rules say.
 use mathlib.Core.Path.{◌≡◌, refl, sym, ap, ◌∙◌}
-use mathlib.Core.Bool.{true, false}
+use mathlib.Core.Bool.{true}
 use mathlib.Core.Logic.{⊎_elim}
 use mathlib.Core.List.{List, [], ◌∷◌}
 use Prim.Native.Nat.{ℕ, zero, suc, ◌-◌, ◌≤◌, ◌<◌}
@@ -15,24 +15,22 @@ use Rattle.words.specs.declared.Refusal.TheVariants.{NoSuchStep}
 use Rattle.words.specs.Refusal.{first_refusal}
 use Rattle.words.specs.Pair.{head_number}
 use Rattle.words.proofs.Order.{unless_is, unless_not, first_none, row_is, row_end}
-use Rattle.rules.specs.declared.Phase.{Phase}
-use Rattle.rules.specs.declared.Phase.TheVariants.{Init, Listen, Coldstart, Active}
 use Rattle.rules.specs.declared.Head.{Head}
 use Rattle.rules.specs.declared.Calendar.{Calendar}
 use Rattle.rules.specs.declared.State.{State}
 use Rattle.rules.specs.declared.Table.{Table}
 use Rattle.rules.specs.Limits.{max_heads}
 use Rattle.rules.specs.Table.{is_head, table_fits}
-use Rattle.rules.specs.Calendar.{left, send}
+use Rattle.rules.specs.Calendar.{left}
 use Rattle.rules.specs.State.{no_head, head_of, put, phase_of, state_fits}
 use Rattle.rules.specs.Step.{timer_due, due, least_timeout, next_instant, timer_head, timer_frame, sends, hear_head, advance, timer, hear, moved}
 use Rattle.rules.specs.Judge.{name_refusal, due_refusal, last_refusal, step_refusal, state_after}
 use Rattle.rules.proofs.Filled.{Filled, filled_all}
-use Rattle.rules.proofs.Each.{less_or_not, either_or_not, is_between, no_both}
+use Rattle.rules.proofs.Each.{less_or_not, either_or_not, is_between}
 use Rattle.rules.proofs.Meaning.{head_is, table_meets, state_meets}
 use Rattle.rules.proofs.Checks.{head_at}
 use Rattle.rules.proofs.Moves.{due_is_now}
-use Rattle.steps.specs.Parts.{place, heeds, timeouts, least, instant, clock_after, calendar_after, head_after, advance_refusal, timer_refusal, hear_refusal, part_refusal}
+use Rattle.steps.specs.Parts.{place, timeouts, least, instant, clock_after, calendar_after, head_after, advance_refusal, timer_refusal, hear_refusal, part_refusal}
 use Rattle.steps.specs.Ready.{Sender, Ready}
 
 -- ---- places
@@ -190,13 +188,6 @@ module _ (t : Table) (s : State) (f : table_fits t ≡ true) (g : state_fits t s
       → record { clock = later; n = s.n; calendar = c; heads = set s.heads at h } ≡ moved t s x
   whole = moved_at t s f g at later x (q ∙ ap place p) (rw r at b)
 
-hear_still : (t : Table) (clock i : ℕ) (c : Calendar) (h : Head) (p : Phase) → heeds p ≡ false → hear_head t clock i c h p ≡ h
-unfolding hear_head heeds
-hear_still t clock i c h Init w = refl
-hear_still t clock i c h Listen w = no_both w
-hear_still t clock i c h Coldstart w = no_both w
-hear_still t clock i c h (Active k) w = refl
-
 -- ---- a step on a state that is kept in place, with its timeouts beside it: what the code comes to is the step, and it is accepted
 
 pub record Goes (t : Table) (s : State) (x : Step) (u : State) (es : List ℕ) : Type 0 where
@@ -218,39 +209,30 @@ module _ (t : Table) (s : State) (f : table_fits t ≡ true) (g : state_fits t s
 
   module _ (at i : ℕ) (a : at ≡ place i) where
     pub goes_timer : x ≡ Timer i → timer_refusal t s.clock (get_or s.heads at no_head) i ≡ 0
-        → (kind : ℕ) → kind ≡ timer_frame t i (get_or s.heads at no_head).phase
-        → (mid : State) → mid ≡ record { clock = s.clock; n = s.n; calendar = sends t s.clock kind i s.calendar; heads = s.heads }
+        → (c : Calendar) → c ≡ sends t s.clock (timer_frame t i (get_or s.heads at no_head).phase) i s.calendar
         → (h : Head) → h ≡ timer_head t s.clock i (get_or s.heads at no_head).phase
-        → u ≡ record { clock = mid.clock; n = mid.n; calendar = mid.calendar; heads = set mid.heads at h } → e ≡ set es at h.timeout → Goes t s x u e
+        → u ≡ record { clock = s.clock; n = s.n; calendar = c; heads = set s.heads at h } → e ≡ set es at h.timeout → Goes t s x u e
     unfolding clock_after calendar_after head_after
-    goes_timer p z kind d mid c h q m k =
+    goes_timer p z c d h q m k =
         let y : step_refusal t s (Timer i) ≡ 0 = sym (timer_refusal_lem t s f g i) ∙ (rw a at z) in
-        let v : u ≡ record { clock = s.clock; n = s.n; calendar = sends t s.clock kind i s.calendar; heads = set s.heads at h } = m ∙ rw c in
         record {
           accepted = rw p y;
-          moves = rw p (v ∙ moved_at t s f g at s.clock (Timer i) a refl y _ (ap (λ (n : ℕ). sends t s.clock n i s.calendar) d) h q);
-          beside = rw v (k ∙ rw r (timeouts_set s.heads at h));
+          moves = rw p (m ∙ moved_at t s f g at s.clock (Timer i) a refl y c d h q);
+          beside = rw m (k ∙ rw r (timeouts_set s.heads at h));
         }
 
-    module _ (p : x ≡ Hear i) (z : hear_refusal t s.clock s.calendar i ≡ 0) (c : Calendar) (d : c ≡ left s.calendar i) where
-      pub goes_hear : (h : Head) → h ≡ hear_head t s.clock i s.calendar (get_or s.heads at no_head) (get_or s.heads at no_head).phase
-          → u ≡ record { clock = s.clock; n = s.n; calendar = c; heads = set s.heads at h } → e ≡ set es at h.timeout → Goes t s x u e
-      unfolding clock_after calendar_after head_after
-      goes_hear h q m k =
-          let y : step_refusal t s (Hear i) ≡ 0 = sym (hear_refusal_lem t s f g i) ∙ z in
-          record {
-            accepted = rw p y;
-            moves = rw p (m ∙ moved_at t s f g at s.clock (Hear i) a refl y c d h q);
-            beside = rw m (k ∙ rw r (timeouts_set s.heads at h));
-          }
-
-      -- a head that heeds no frame stays as it is
-      pub goes_still : heeds (get_or s.heads at no_head).phase ≡ false → u ≡ record { clock = s.clock; n = s.n; calendar = c; heads = s.heads } → e ≡ es → Goes t s x u e
-      goes_still w m k =
-          let h = get_or s.heads at no_head in
-          goes_hear h (sym (hear_still t s.clock i s.calendar h h.phase w))
-          (m ∙ ap (λ (hs : List Head). record { clock = s.clock; n = s.n; calendar = c; heads = hs }) (sym (set-get_or s.heads at no_head)))
-          (k ∙ sym (ap (set es at) (sym (timeout_at s.heads at) ∙ ap (λ (y : List ℕ). get_or y at 0) (sym r)) ∙ set-get_or es at 0))
+    pub goes_hear : x ≡ Hear i → hear_refusal t s.clock s.calendar i ≡ 0
+        → (c : Calendar) → c ≡ left s.calendar i
+        → (h : Head) → h ≡ hear_head t s.clock i s.calendar (get_or s.heads at no_head) (get_or s.heads at no_head).phase
+        → u ≡ record { clock = s.clock; n = s.n; calendar = c; heads = set s.heads at h } → e ≡ set es at h.timeout → Goes t s x u e
+    unfolding clock_after calendar_after head_after
+    goes_hear p z c d h q m k =
+        let y : step_refusal t s (Hear i) ≡ 0 = sym (hear_refusal_lem t s f g i) ∙ z in
+        record {
+          accepted = rw p y;
+          moves = rw p (m ∙ moved_at t s f g at s.clock (Hear i) a refl y c d h q);
+          beside = rw m (k ∙ rw r (timeouts_set s.heads at h));
+        }
 
 -- what each kind is refused with, and who may send once it is not
 module _ (t : Table) (s : State) (f : table_fits t ≡ true) (g : state_fits t s ≡ true) (x : Step) where
@@ -268,17 +250,6 @@ module _ (t : Table) (s : State) (f : table_fits t ≡ true) (g : state_fits t s
 
   pub hear_sender : (i : ℕ) → x ≡ Hear i → step_refusal t s x ≡ 0 → Sender t s.clock i
   hear_sender i p z = sender t s f g i (hear_named t s f g i (rw p at z))
-
--- the calendar after a timer that may send
-module _ (t : Table) (s mid : State) (kind i : ℕ) where
-  pub sends_mid : (kind ≡ 0 → ⊥) → (c : Calendar) → c ≡ send t s.clock kind i s.calendar → mid ≡ record { clock = s.clock; n = s.n; calendar = c; heads = s.heads }
-      → mid ≡ record { clock = s.clock; n = s.n; calendar = sends t s.clock kind i s.calendar; heads = s.heads }
-  unfolding sends
-  sends_mid n c q m = m ∙ rw (ne_eqb kind 0 n, q)
-
-  pub silent_mid : kind ≡ 0 → mid ≡ s → mid ≡ record { clock = s.clock; n = s.n; calendar = sends t s.clock kind i s.calendar; heads = s.heads }
-  unfolding sends
-  silent_mid n m = m ∙ rw n
 
 -- ---- what an attempted step answers
 

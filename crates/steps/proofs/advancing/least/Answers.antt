@@ -1,4 +1,4 @@
-use Rattle.std.proofs.Common.{◌≡◌, ◌∙◌, ℕ, get_or, min, fold, slice_range, rules}
+use Rattle.std.proofs.Common.{◌≡◌, ◌∙◌, get_or, min, fold, slice_range, rules}
 use Rattle.steps.proofs.Laws.{least_fold}
 use Rattle.steps.proofs.advancing.least.Goals as goal
 
