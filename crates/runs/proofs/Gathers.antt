@@ -2,12 +2,12 @@
 use mathlib.Core.Path.{◌≡◌, refl, sym, ap, ◌∙◌}
 use mathlib.Core.Bool.{Bool, true, false}
 use mathlib.Core.List.{List, [], ◌∷◌, ◌++◌, append_assoc, append-nil}
-use Prim.Native.Nat.{ℕ, zero, suc, ◌+◌, ◌*◌, ◌≤◌, ◌<◌}
+use Prim.Native.Nat.{ℕ, zero, suc, ◌+◌, ◌*◌, ◌≤◌}
 use native.Mathlib.Numerals.{add-one}
 use native.Mathlib.Omega.{arith}
 use lib.Dec.{eqb}
-use lib.ListN.{length, get_or, set, take, drop, replicate, length-append, length-take, length-set, length-replicate}
-use lib.Seq.{sets-eq, take_at, take-suc, drop-cons, set_at, append_snoc, length-take-le}
+use lib.ListN.{length, get_or, set, take, drop, length-append, length-take, length-set, length-replicate}
+use lib.Seq.{sets-eq, take_at, length-take-le}
 use Rattle.words.specs.declared.Step.{Step}
 use Rattle.words.specs.declared.Step.TheVariants.{Timer, Hear}
 use Rattle.words.specs.Pair.{kind_of, head_number}
@@ -73,6 +73,15 @@ adds_one p x r kind k i j l h =
       same = two_more p.bytes p.used kind i (omega arith) ∙ rw (h.same, k, j) (sym o);
     }
 
+-- a step that is gathered where a test holds
+pub held_yes : (p q : Pairs) (l : List Step) (b : Bool) (x : Step) → Holds p l → b ≡ true → Adds p x q → Holds q (l ++ only_if b x)
+unfolding only_if
+held_yes p q l b x h e a = rw e (a l h)
+
+pub held_no : (p : Pairs) (l : List Step) (b : Bool) (x : Step) → Holds p l → b ≡ false → Holds p (l ++ only_if b x)
+unfolding only_if
+held_no p l b x h e = rw (e, append-nil) h
+
 -- what is gathered at k heads leaves room for the next
 pub held_to : (p : Pairs) (s : State) (k : ℕ) → Holds p (open_to s k) → p.used ≤ 4 * k
 held_to p s k h = omega (arith, h.long, to_short s k)
@@ -93,3 +102,6 @@ held_next p s k b e h = rw (add-one k) (rw (e, add-one k, append_assoc) at h)
 -- what is used has its place
 pub held_fits : (p : Pairs) (l : List Step) → Holds p l → p.used ≤ most_bytes
 held_fits p l h = omega (arith, h.places, sym (length-take p.used p.bytes) ∙ ap length h.same ∙ sym h.long)
+
+pub held_long : (p : Pairs) (l : List Step) → Holds p l → length (take p.used p.bytes) ≡ p.used
+held_long p l h = ap length h.same ∙ sym h.long

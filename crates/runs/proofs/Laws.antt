@@ -3,26 +3,21 @@ use mathlib.Core.Path.{◌≡◌, refl, sym, ap, ◌∙◌}
 use mathlib.Core.Bool.{Bool, true, false, ◌&&◌}
 use mathlib.Core.List.{List, [], ◌∷◌, ◌++◌}
 use mathlib.Core.Logic.{inl, inr}
-use Prim.Native.Nat.{ℕ, zero, suc, ◌+◌, ◌-◌, ◌≤◌, ◌<◌, min}
-use native.Mathlib.Nat.{min-eq_left, min-eq_right, le_of_lt}
+use Prim.Native.Nat.{ℕ, zero, suc, ◌+◌, ◌-◌, ◌≤◌, ◌<◌}
 use native.Mathlib.Numerals.{add-one}
 use native.Mathlib.Omega.{arith}
 use lib.Dec.{eqb}
-use lib.ListN.{length, get_or, drop, drop_of_length-le}
-use lib.Seq.{drop-cons}
+use lib.ListN.{get_or}
 use borrow.Author.Tests.{eq-eqb, ne_eqb}
 use Rattle.hearers.specs.Set.{has}
 use Rattle.words.specs.declared.Step.{Step}
 use Rattle.words.specs.declared.Step.TheVariants.{Advance, Timer, Hear}
-use Rattle.words.specs.declared.Refusal.TheVariants.{NoSuchStep}
-use Rattle.words.specs.Refusal.{number_of}
-use Rattle.words.specs.Pair.{step_of, head_number}
 use Rattle.rules.specs.declared.Calendar.{Calendar}
 use Rattle.rules.specs.declared.State.{State}
 use Rattle.rules.specs.declared.Table.{Table}
 use Rattle.rules.specs.Table.{table_fits}
 use Rattle.rules.specs.Calendar.{hears}
-use Rattle.rules.specs.Limits.{max_heads, ceiling}
+use Rattle.rules.specs.Limits.{max_heads}
 use Rattle.rules.specs.State.{head_of, state_fits}
 use Rattle.rules.specs.Step.{timer_due, moved}
 use Rattle.rules.specs.Judge.{step_refusal, record_refusal}
@@ -30,14 +25,13 @@ use Rattle.rules.proofs.Meaning.{table_meets, state_meets, meets_state}
 use Rattle.exact.proofs.Keeps.{keeps}
 use Rattle.rules.specs.Calendar.{hear_due}
 use Rattle.runs.specs.Open.{only_if, open_at, open_to, open_steps, first_or, first_due}
-use Rattle.runs.specs.Run.{Outcome, stopped, onward, run_from, checked}
-use Rattle.runs.specs.Chosen.{longest_run, on_first, policy_from}
-use Rattle.steps.specs.Parts.{place, timeouts, clock_after}
-use Rattle.steps.proofs.Parts.{Goes, ready, place_low, place_in, place_within, timeout_at}
-use Rattle.runs.proofs.Below.{nothing_below}
+use Rattle.runs.specs.Run.{Outcome, stopped, onward, checked}
+use Rattle.runs.specs.Chosen.{on_first, policy_from}
+use Rattle.steps.specs.Parts.{place, timeouts}
+use Rattle.steps.proofs.Parts.{place_low, place_in, timeout_at}
 use Rattle.rules.proofs.Each.{same_or_not}
 use Rattle.runs.specs.Search.{due_to}
-use Rattle.runs.proofs.Opens.{first_open, first_refused, first_free, first_high}
+use Rattle.runs.proofs.Opens.{first_open, first_refused}
 
 -- ---- what is due at one head
 
@@ -147,78 +141,6 @@ moved_fits t s x f g e = let m = table_meets t f in meets_state t (moved t s x) 
 pub still_fits : (t : Table) (s u : State) (x : Step) → table_fits t ≡ true → state_fits t s ≡ true → step_refusal t s x ≡ 0 → u ≡ moved t s x → state_fits t u ≡ true
 still_fits t s u x f g e a = rw a (moved_fits t s x f g e)
 
--- ---- a run of given steps: what is left of it at the byte i, after k accepted steps
-
-module _ (t : Table) (s : State) (k i : ℕ) (l : List ℕ) where
-  run_step : i + 1 < length l → (x : Step) → x ≡ step_of (get_or l i 0) (get_or l (i + 1) 0)
-      → run_from t s k (drop i l) ≡ onward s k (step_refusal t s x) (run_from t (moved t s x) (k + 1) (drop (i + 2) l))
-  unfolding run_from
-  run_step h x e =
-      let p : i + 1 ≡ suc i = add-one i in
-      let q : i + 2 ≡ suc (suc i) = omega arith in
-      let a : i < length l = omega arith in
-      let b : suc i < length l = omega arith in
-      rw (e, p, q, add-one k, drop-cons l i 0 a, drop-cons l (suc i) 0 b)
-
-  run_lone : i < length l → length l ≤ i + 1 → run_from t s k (drop i l) ≡ stopped s k (number_of NoSuchStep)
-  unfolding run_from
-  run_lone g h = let e : drop (suc i) l ≡ [] = drop_of_length-le l {i = suc i} (omega arith) in rw (drop-cons l i 0 g, e)
-
-  run_none : length l ≤ i → run_from t s k (drop i l) ≡ stopped s k 0
-  unfolding run_from
-  run_none h = rw (drop_of_length-le l h)
-
--- the same against the whole run o
-module _ (t : Table) (s : State) (k i : ℕ) (l : List ℕ) {o : Outcome} (before : run_from t s k (drop i l) ≡ o) where
-  pub run_on : i + 1 < length l → (x : Step) → x ≡ step_of (get_or l i 0) (get_or l (i + 1) 0) → (u : State) → u ≡ moved t s x → step_refusal t s x ≡ 0
-      → run_from t u (k + 1) (drop (i + 2) l) ≡ o
-  run_on h x e u a z = rw a (sym (run_step t s k i l h x e ∙ on_goes s k _ _ z) ∙ before)
-
-  pub run_refused : i + 1 < length l → (x : Step) → x ≡ step_of (get_or l i 0) (get_or l (i + 1) 0) → (n : ℕ) → n ≡ step_refusal t s x → (step_refusal t s x ≡ 0 → ⊥) → stopped s k n ≡ o
-  run_refused h x e n r z = ap (stopped s k) r ∙ sym (run_step t s k i l h x e ∙ on_stops s k _ _ z) ∙ before
-
-  pub run_odd : i < length l → length l ≤ i + 1 → stopped s k (number_of NoSuchStep) ≡ o
-  run_odd g h = sym (run_lone t s k i l g h) ∙ before
-
-  pub run_done : length l ≤ i → stopped s k 0 ≡ o
-  run_done h = sym (run_none t s k i l h) ∙ before
-
--- ---- a run by the policy: only the ceiling stops the step that the search finds
-
-module _ (t : Table) (s : State) (f : table_fits t ≡ true) (g : state_fits t s ≡ true) (es : List ℕ) (r : es ≡ timeouts s.heads) (x : Step) (later : ℕ) (b : later ≡ clock_after es t.n s.clock s.calendar x) where
-  comes_to : later ≡ clock_after (timeouts s.heads) t.n s.clock s.calendar x
-  comes_to = rw r at b
-
-  pub policy_free : x ≡ first_due s t.n → later ≤ ceiling → step_refusal t s x ≡ 0
-  policy_free e l = let m = table_meets t f in rw e (first_free t s m (state_meets t s m.heads g) later (comes_to ∙ ap (clock_after (timeouts s.heads) t.n s.clock s.calendar) e) l)
-
-  -- a timer or a hearing that is found leaves the clock, which is within the ceiling
-  pub policy_due : x ≡ first_due s t.n → later ≡ s.clock → step_refusal t s x ≡ 0
-  policy_due e q = policy_free e (let m = table_meets t f in let w = (state_meets t s m.heads g).clock in omega arith)
-
-  pub policy_high : ceiling < later → step_refusal t s x ≡ 0 → ⊥
-  policy_high l = let m = table_meets t f in first_high t s m (state_meets t s m.heads g) later x comes_to l
-
--- what a step taken leaves: the step done in place, and the place where the next search starts, below which nothing is due
-pub record Takes (t : Table) (s : State) (x : Step) (u : State) (es : List ℕ) (from : ℕ) : Type 0 where
-  pub goes : Goes t s x u es
-  pub within : from ≤ t.n
-  pub quiet : open_to u from ≡ []
-
-pub takes_advance : (t : Table) (s : State) (x : Step) (u : State) (es : List ℕ) (from : ℕ) → Goes t s x u es → from ≡ 0 → Takes t s x u es from
-unfolding open_to
-takes_advance t s x u es from g z = record { goes = g; within = omega arith; quiet = rw z }
-
-pub takes_head : (t : Table) (s : State) (x : Step) (u : State) (es : List ℕ) (from : ℕ) → table_fits t ≡ true → state_fits t s ≡ true → Goes t s x u es → (i at : ℕ) → head_number x ≡ i → at ≡ place i
-    → from ≡ at → open_to s (place (head_number x)) ≡ [] → Takes t s x u es from
-takes_head t s x u es from f h g i at p q z e =
-    let a : from ≡ place (head_number x) = z ∙ q ∙ ap place (sym p) in
-    record {
-      goes = g;
-      within = let l = place_within t s.clock x (ready t s f h x g.accepted) in omega arith;
-      quiet = rw (g.moves, a) (nothing_below t s x (table_meets t f).propagation e);
-    }
-
 -- ---- a run by the policy: what is left of it after k of n steps
 
 module _ (t : Table) (s : State) (f : table_fits t ≡ true) (g : state_fits t s ≡ true) (k n : ℕ) {o : Outcome} (before : policy_from t s k (n - k) ≡ o) where
@@ -242,9 +164,3 @@ module _ (t : Table) (s : State) (f : table_fits t ≡ true) (g : state_fits t s
   pub policy_done : n ≤ k → stopped s k 0 ≡ o
   unfolding policy_from
   policy_done l = let e : n - k ≡ 0 = omega arith in rw e at before
-
-pub policy_short : (t : Table) (s : State) (n : ℕ) → n ≤ longest_run → policy_from t s 0 n ≡ policy_from t s 0 (min n longest_run)
-policy_short t s n l = ap (policy_from t s 0) (sym (min-eq_left l))
-
-pub policy_long : (t : Table) (s : State) (n : ℕ) → longest_run < n → policy_from t s 0 longest_run ≡ policy_from t s 0 (min n longest_run)
-policy_long t s n l = ap (policy_from t s 0) (sym (min-eq_right (le_of_lt l)))

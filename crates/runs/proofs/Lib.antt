@@ -7,3 +7,4 @@ pub mod Plays
 pub mod Chooses
 pub mod Unique
 pub mod Stepping
+pub mod Turns

@@ -1,4 +1,3 @@
-use Rattle.std.proofs.Common.{refl, arith}
 use Rattle.rules.proofs.Meaning.{table_meets}
 use Rattle.runs.proofs.Laws.{quiet_beside, quiet_of, first_found}
 use Rattle.runs.proofs.run.Run.first_due.Goals as goal

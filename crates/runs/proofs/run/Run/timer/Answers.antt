@@ -1,4 +1,4 @@
-use Rattle.std.proofs.Common.{refl, ap, sym, ◌∙◌, Err, arith}
+use Rattle.std.proofs.Common.{refl, ap, sym, ◌∙◌, Err}
 use Rattle.std.proofs.lemmas.Result.{err_from_is_err_and}
 use Rattle.words.specs.declared.Step.TheVariants.{Timer}
 use Rattle.words.proofs.Order.{accepted_zero}
