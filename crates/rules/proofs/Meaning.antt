@@ -178,10 +178,6 @@ zero_fields c e =
     let s = and_true (eqb c.sent 0) (eqb c.delivery 0) o.1 in
     record { kind = eqb-true _ _ k.0; origin = eqb-true _ _ o.0; sent = eqb-true _ _ s.0; delivery = eqb-true _ _ s.1 }
 
-pub fields_zero : (c : Calendar) → ZeroFields c → all_zero c ≡ true
-unfolding all_zero
-fields_zero c z = both (eq-eqb _ _ z.kind) (both (eq-eqb _ _ z.origin) (both (eq-eqb _ _ z.sent) (eq-eqb _ _ z.delivery)))
-
 zero_calendar : (c : Calendar) → c.hearers ≡ 0 → all_zero c ≡ true → c ≡ empty_calendar
 zero_calendar c h e = let z = zero_fields c e in λ i. record { hearers = h i; kind = z.kind i; origin = z.origin i; sent = z.sent i; delivery = z.delivery i }
 
@@ -265,14 +261,6 @@ calendar_meets t clock c e = go (quiet c) refl e
     go false q f =
         let r = frame_numbers t clock c f in
         record { empty = λ h. absurd (quiet_not c q h); few = hears_few t c (lt_of_le_ones t.n r.hearers); frame = λ n. frame_meets t clock c r }
-
-pub calendar_quiet : (t : Table) (clock : ℕ) (c : Calendar) → c.hearers ≡ 0 → calendar_fits t clock c ≡ all_zero c
-unfolding calendar_fits
-calendar_quiet t clock c h = rw (is_quiet c h)
-
-pub calendar_busy : (t : Table) (clock : ℕ) (c : Calendar) → (c.hearers ≡ 0 → ⊥) → calendar_fits t clock c ≡ frame_fits t clock c
-unfolding calendar_fits
-calendar_busy t clock c h = rw (not_quiet c h)
 
 pub meets_calendar : (t : Table) (clock : ℕ) (c : Calendar) → CalendarMeets t clock c → calendar_fits t clock c ≡ true
 unfolding calendar_fits all_zero

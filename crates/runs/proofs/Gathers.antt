@@ -6,7 +6,7 @@ use Prim.Native.Nat.{ℕ, zero, suc, ◌+◌, ◌*◌, ◌≤◌}
 use native.Mathlib.Numerals.{add-one}
 use native.Mathlib.Omega.{arith}
 use lib.Dec.{eqb}
-use lib.ListN.{length, get_or, set, take, drop, length-append, length-take, length-set, length-replicate}
+use lib.ListN.{length, get_or, set, take, drop, length-append, length-set, length-replicate}
 use lib.Seq.{sets-eq, take_at, length-take-le}
 use Rattle.words.specs.declared.Step.{Step}
 use Rattle.words.specs.declared.Step.TheVariants.{Timer, Hear}
@@ -98,10 +98,6 @@ pub held_next : (p : Pairs) (s : State) (k : ℕ) (b : Bool) → b ≡ hear_due 
     → Holds p (open_to s k ++ only_if (eqb (get_or s.heads k no_head).timeout s.clock) (Timer (k + 1)) ++ only_if b (Hear (k + 1))) → Holds p (open_to s (k + 1))
 unfolding open_to open_at timer_due head_of
 held_next p s k b e h = rw (add-one k) (rw (e, add-one k, append_assoc) at h)
-
--- what is used has its place
-pub held_fits : (p : Pairs) (l : List Step) → Holds p l → p.used ≤ most_bytes
-held_fits p l h = omega (arith, h.places, sym (length-take p.used p.bytes) ∙ ap length h.same ∙ sym h.long)
 
 pub held_long : (p : Pairs) (l : List Step) → Holds p l → length (take p.used p.bytes) ≡ p.used
 held_long p l h = ap length h.same ∙ sym h.long

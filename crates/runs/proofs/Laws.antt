@@ -1,6 +1,6 @@
 -- The search and the runs, case by case and in the code's own terms: each return of a function cites one law.
 use mathlib.Core.Path.{◌≡◌, refl, sym, ap, ◌∙◌}
-use mathlib.Core.Bool.{Bool, true, false, ◌&&◌}
+use mathlib.Core.Bool.{true, false}
 use mathlib.Core.List.{List, [], ◌∷◌, ◌++◌}
 use mathlib.Core.Logic.{inl, inr}
 use Prim.Native.Nat.{ℕ, zero, suc, ◌+◌, ◌-◌, ◌≤◌, ◌<◌}
@@ -9,14 +9,12 @@ use native.Mathlib.Omega.{arith}
 use lib.Dec.{eqb}
 use lib.ListN.{get_or}
 use borrow.Author.Tests.{eq-eqb, ne_eqb}
-use Rattle.hearers.specs.Set.{has}
 use Rattle.words.specs.declared.Step.{Step}
 use Rattle.words.specs.declared.Step.TheVariants.{Advance, Timer, Hear}
 use Rattle.rules.specs.declared.Calendar.{Calendar}
 use Rattle.rules.specs.declared.State.{State}
 use Rattle.rules.specs.declared.Table.{Table}
 use Rattle.rules.specs.Table.{table_fits}
-use Rattle.rules.specs.Calendar.{hears}
 use Rattle.rules.specs.Limits.{max_heads}
 use Rattle.rules.specs.State.{head_of, state_fits}
 use Rattle.rules.specs.Step.{timer_due, moved}
@@ -32,24 +30,6 @@ use Rattle.steps.proofs.Parts.{place_low, place_in, timeout_at}
 use Rattle.rules.proofs.Each.{same_or_not}
 use Rattle.runs.specs.Search.{due_to}
 use Rattle.runs.proofs.Opens.{first_open, first_refused}
-
--- ---- what is due at one head
-
-pub hear_later : (clock : ℕ) (c : Calendar) (i : ℕ) → (c.delivery ≡ clock → ⊥) → false ≡ hear_due clock c i
-unfolding hear_due
-hear_later clock c i n = rw (ne_eqb _ _ n) (and_no (hears c i))
-  where
-    and_no : (b : Bool) → false ≡ (b && false)
-    and_no true = refl
-    and_no false = refl
-
-pub hear_now : (clock : ℕ) (c : Calendar) (i : ℕ) → c.delivery ≡ clock → eqb (has c.hearers i) 1 ≡ hear_due clock c i
-unfolding hear_due hears
-hear_now clock c i e = rw (eq-eqb _ _ e) (and_yes (eqb (has c.hearers i) 1))
-  where
-    and_yes : (b : Bool) → b ≡ (b && true)
-    and_yes true = refl
-    and_yes false = refl
 
 -- ---- the search, by the timeouts alone
 

@@ -21,8 +21,6 @@ use Rattle.rules.specs.Judge.{step_refusal}
 use Rattle.rules.specs.Conditions.{TableMeets, Hears, StateMeets, Due, a_timer, a_delivery, Enabled}
 use Rattle.rules.proofs.Each.{same_or_not, less_or_not, and_true, both, either_or_not, not_both}
 use Rattle.rules.proofs.Meaning.{hears_is, is_hears, table_meets, state_meets}
-use Rattle.steps.specs.Parts.{timeouts, clock_after}
-use Rattle.steps.proofs.Parts.{instant_is}
 use Rattle.rules.proofs.Moves.{next_least, due_is, is_due}
 use Rattle.exact.proofs.Enabled.{next_low, enabled_is, is_enabled, accepted_exactly}
 use Rattle.runs.specs.Claims.{ListedExactly, Before, InOrder, order_none, order_first, ListedInOrder, EachOnce, once_none, once_first, ListedOnce, SearchFirst}
@@ -228,22 +226,6 @@ module _ (t : Table) (s : State) (f : TableMeets t) (m : StateMeets t s) where
       go : (l : List Step) → open_to s t.n ≡ l → open_steps t s ≡ []
       go [] q = open_none t s f m q (rw q at n)
       go (x ∷ rest) q = absurd (n (rw q (open_accepted t s f m x (subst (Memᴰ x) (sym (open_due t s f m x rest q ∙ q)) (Memᴰ.head refl)))))
-
--- whether it is refused, by the clock that it comes to: only an advance can pass the ceiling
-module _ (t : Table) (s : State) (f : TableMeets t) (m : StateMeets t s) (later : ℕ) where
-  pub first_free : later ≡ clock_after (timeouts s.heads) t.n s.clock s.calendar (first_due s t.n) → later ≤ ceiling → step_refusal t s (first_due s t.n) ≡ 0
-  unfolding first_due first_or clock_after Enabled
-  first_free e l = go (open_to s t.n) refl
-    where
-      go : (q : List Step) → open_to s t.n ≡ q → step_refusal t s (first_or Advance (open_to s t.n)) ≡ 0
-      go [] q = rw q (is_enabled t s f m Advance (λ d. not_both (due t s) (is_due t s d) (none_due t s f m q), (next_instant t s, (next_least t s f.some_head, rw (← instant_is t s) (rw (← (rw q at e)) l)))))
-      go (x ∷ rest) q = rw q (open_accepted t s f m x (subst (Memᴰ x) (sym (open_due t s f m x rest q ∙ q)) (Memᴰ.head refl)))
-
-pub first_high : (t : Table) (s : State) (f : TableMeets t) (m : StateMeets t s) (later : ℕ) (x : Step) → later ≡ clock_after (timeouts s.heads) t.n s.clock s.calendar x → ceiling < later → step_refusal t s x ≡ 0 → ⊥
-unfolding clock_after Enabled
-first_high t s f m later Advance e l z = let n = next_low t s (enabled_is t s f m Advance z).1 in let i = instant_is t s in omega arith
-first_high t s f m later (Timer i) e l z = let w = m.clock in omega arith
-first_high t s f m later (Hear i) e l z = let w = m.clock in omega arith
 
 pub search_first : SearchFirst
 search_first t s x rest p q e =
