@@ -22,15 +22,19 @@ pub or_some : {A : Type 0} (number : ℕ) (x zeros : A) → number ≡ 0 → x �
 unfolding or_blank
 or_some number x zeros e = rw e
 
--- a reader that answers x, or refuses; its refusal then takes the zeros along
-pub answered : {A : Type 0} {Q : Refusal → Refused A → Type 0} (r : Result A Refusal) (q : Result A (Refused A)) (number : ℕ) (x zeros : A)
+-- a refusal that takes the zeros along
+pub refused : {A : Type 0} (e : Refused A) (why : Refusal) (number : ℕ) (x zeros : A) → number_of why ≡ number → (e.why ≡ why) × (e.back ≡ zeros) → Answers (Err e) number (or_blank number x zeros)
+refused e why number x zeros q w = (ap number_of w.0 ∙ q, w.1 ∙ or_none number x zeros (λ z. omega (arith, number_some why)))
+
+-- what is read, or its refusal with the zeros
+pub answered : {A : Type 0} {Q : Refusal → Refused A → Type 0} (r : Result A Refusal) (a : Result A (Refused A)) (number : ℕ) (x zeros : A)
     → Reads r number x
-    → MatchResult r (λ y. q ≡ Ok y) (λ why. IsErrAnd q (Q why))
+    → MatchResult r (λ y. a ≡ Ok y) (λ why. IsErrAnd a (Q why))
     → ((why : Refusal) (e : Refused A) → Q why e → (e.why ≡ why) × (e.back ≡ zeros))
-    → Answers q number (or_blank number x zeros)
-answered (Ok y) q number x zeros e f g = rw f (sym e.0, e.1 ∙ or_some number x zeros e.0)
-answered (Err why) (Ok y) number x zeros e f g = absurd f
-answered (Err why) (Err z) number x zeros e f g = let w = g why z f in (ap number_of w.0 ∙ e, w.1 ∙ or_none number x zeros (λ z. omega (arith, number_some why)))
+    → Answers a number (or_blank number x zeros)
+answered (Ok y) a number x zeros q f g = rw f (sym q.0, q.1 ∙ or_some number x zeros q.0)
+answered (Err why) (Ok y) number x zeros q f g = absurd f
+answered (Err why) (Err e) number x zeros q f g = refused e why number x zeros q (g why e f)
 
 -- ---- a writer
 

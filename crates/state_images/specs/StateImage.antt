@@ -1,5 +1,5 @@
 -- Document 01, "The state": the state image, and what reads as one against a table.
-use Rattle.std.specs.Prelude.{Bool, ◌&&◌, ◌||◌, List, [], ◌∷◌, ◌++◌, ℕ, zero, suc, ◌+◌, ◌*◌, eqb, leb, length}
+use Rattle.std.specs.Prelude.{◌≡◌, Bool, true, false, Option, MatchOption, ◌&&◌, ◌||◌, List, [], ◌∷◌, ◌++◌, ℕ, zero, suc, ◌+◌, ◌*◌, eqb, leb, length}
 use Rattle.words.specs.declared.Refusal.TheVariants.{StateLength, StateMark, StateRule}
 use Rattle.words.specs.Refusal.{unless, first_refusal}
 use Rattle.rules.specs.declared.Table.{Table}
@@ -81,6 +81,10 @@ phase_from (suc (suc (suc k))) slot = Active slot
 -- "A phase number above 3, or a slot that isn't 0 on a head that isn't active, breaks a state rule (6)."
 unfoldable pub phase_known : ℕ → ℕ → Bool
 phase_known number slot = leb number active_number && (eqb number active_number || eqb slot 0)
+
+-- what is read where a test holds of it, and nothing where it fails
+abbrev pub Known : {A : Type 0} → Option A → Bool → A → Type 0
+Known r test x = MatchOption r (test ≡ false) (λ y. (test ≡ true) × (y ≡ x))
 
 -- the head whose fields stand from place k on, and whether its phase and slot are known
 unfoldable pub head_at : List ℕ → ℕ → Head
