@@ -109,10 +109,6 @@ take_refusal n l =
     ∷ unless (every n (λ i. known_at l (head_place i))) StateRule
     ∷ [])
 
--- the state that the fields make, or an all-zero record
-abbrev pub take_state : ℕ → List ℕ → State
-take_state n l = or_blank (take_refusal n l) (state_in n l) blank
-
 -- "For a state image, whose table record is checked first (3): length 4; 5; 6."
 unfoldable pub read_state_refusal : Table → List ℕ → ℕ
 read_state_refusal t l = first_refusal (table_refusal t ∷ take_refusal t.n l ∷ state_refusal t (state_in t.n l) ∷ [])

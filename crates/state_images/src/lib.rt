@@ -88,8 +88,8 @@ fn store_heads(room: &mut [u8], s: State)
     requires { (s.n ≤ max_heads) × (state_length s.n ≤ length room.old) }
     ensures { room.new ≡ stored room.old state_front (joined s.n (λ i. in_bytes (head_fields (head_of s.heads i)))) }
 {
-    for (k, head) in s.heads[..s.n as usize].iter().enumerate() {
-        store_head(room, FRONT + HEAD * k, *head);
+    for (k, &head) in s.heads[..s.n as usize].iter().enumerate() {
+        store_head(room, FRONT + HEAD * k, head);
     }
 }
 

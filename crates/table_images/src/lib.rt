@@ -58,8 +58,8 @@ fn store_wakes(room: &mut [u8], t: Table)
     requires { (t.n ≤ max_heads) × (table_length t.n ≤ length room.old) }
     ensures { room.new ≡ stored room.old table_front (joined t.n (λ i. in_bytes (wake_fields t i))) }
 {
-    for (k, wake) in t.wakes[..t.n as usize].iter().enumerate() {
-        store(room, FRONT + WAKE * k, 4, *wake as u64);
+    for (k, &wake) in t.wakes[..t.n as usize].iter().enumerate() {
+        store(room, FRONT + WAKE * k, 4, wake as u64);
     }
 }
 

@@ -9,4 +9,4 @@ pub read_fit-requires : goal.read_fit-requires
 read_fit-requires c = accepted_table _ (sym c.in-Ok.ensures)
 
 pub returns-in-Err : goal.returns-in-Err
-returns-in-Err c = let w = c.with.ensures in refused c.with.result c.in-Err.why _ _ blank (read_no_table c.args.t c.args.image.now _ c.in-Err.ensures) (w.why, w.back ∙ c.blank.ensures)
+returns-in-Err c = let w = c.with.ensures in refused c.with.result _ _ _ blank (read_no_table c.args.t c.args.image.now _ c.in-Err.ensures) (w.why, w.back ∙ c.blank.ensures)
