@@ -2,7 +2,7 @@ use Rattle.std.proofs.Common.{refl, sym, suc, arith}
 use Rattle.rules.specs.Each.{every}
 use Rattle.rules.specs.State.{no_head}
 use Rattle.rules.proofs.Each.{every_more, every_fails, every_done}
-use Rattle.octets.proofs.Back.{taken_none, taken_more, taken_all}
+use Rattle.octets.proofs.Taken.{taken_none, taken_more, taken_all}
 use Rattle.state_images.specs.StateImage.{head_place, known_at}
 use Rattle.state_images.proofs.take_heads.Goals as goal
 

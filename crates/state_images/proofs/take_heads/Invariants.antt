@@ -1,7 +1,7 @@
 use Rattle.std.proofs.Common.{◌≡◌, true}
 use Rattle.rules.specs.Each.{every}
 use Rattle.rules.specs.State.{no_head}
-use Rattle.octets.proofs.Back.{Taken}
+use Rattle.octets.proofs.Taken.{Taken}
 use Rattle.state_images.specs.StateImage.{head_place, head_at, known_at}
 use Rattle.state_images.proofs.take_heads.Given as goal
 

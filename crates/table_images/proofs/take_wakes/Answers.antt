@@ -1,5 +1,5 @@
 use Rattle.std.proofs.Common.{arith}
-use Rattle.octets.proofs.Back.{taken_none, taken_more, taken_all}
+use Rattle.octets.proofs.Taken.{taken_none, taken_more, taken_all}
 use Rattle.table_images.proofs.take_wakes.Goals as goal
 
 pub loop-k-init : goal.loop-k-init

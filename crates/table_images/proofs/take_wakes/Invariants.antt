@@ -1,5 +1,5 @@
 use Rattle.octets.specs.Bytes.{number_at}
-use Rattle.octets.proofs.Back.{Taken}
+use Rattle.octets.proofs.Taken.{Taken}
 use Rattle.table_images.specs.TableImage.{wake_place}
 use Rattle.table_images.proofs.take_wakes.Given as goal
 
