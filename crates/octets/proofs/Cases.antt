@@ -1,20 +1,17 @@
 -- What the readers and the writers of both images have in common, case by case: each return of a function cites one law.
 use mathlib.Core.Path.{◌≡◌, ◌∙◌}
-use mathlib.Core.Bool.{false}
 use mathlib.Core.List.{List}
 use Prim.Native.Nat.{ℕ, ◌≤◌}
 use native.Mathlib.Omega.{arith}
-use lib.Dec.{eqb}
 use lib.ListN.{length}
-use borrow.Author.Tests.{eq-eqb, ne_eqb}
+use borrow.Author.Tests.{ne_eqb}
 use Rattle.words.specs.declared.Refusal.{Refusal}
 use Rattle.words.specs.Refusal.{number_of}
 use Rattle.words.proofs.Order.{number_some}
-use Rattle.octets.specs.Bytes.{number_at}
 use Rattle.rules.specs.Room.{bytes_written, room_after}
 use Rattle.rules.proofs.Rooms.{wrote_image}
 use Rattle.octets.specs.Room.{stored}
-use Rattle.octets.specs.Fields.{is_marked, or_blank}
+use Rattle.octets.specs.Fields.{or_blank}
 use Rattle.octets.proofs.Rows.{stored_front}
 
 -- ---- a reader's two answers
@@ -30,16 +27,6 @@ or_some number x zeros e = rw e
 -- what a reader answers that refuses with x
 pub refuse : {A : Type 0} (n number : ℕ) (r v zeros : A) (x : Refusal) → (n ≡ number_of x) × (r ≡ zeros) → number_of x ≡ number → (n ≡ number) × (r ≡ or_blank number v zeros)
 refuse n number r v zeros x a e = (a.0 ∙ e, a.1 ∙ or_none number v zeros (λ z. omega (arith, number_some x)))
-
--- ---- the mark
-
-pub unmarked : (l : List ℕ) (m x : ℕ) → x ≡ number_at l 0 3 → (x ≡ m → ⊥) → false ≡ is_marked m l
-unfolding is_marked
-unmarked l m x e n = rw (← e, ne_eqb _ _ n)
-
-pub marked_rest : (l : List ℕ) (m x y : ℕ) → x ≡ number_at l 0 3 → x ≡ m → y ≡ number_at l 3 2 → eqb y 1 ≡ is_marked m l
-unfolding is_marked
-marked_rest l m x y e h f = rw (← e, eq-eqb _ _ h, ← f)
 
 -- ---- a writer
 
