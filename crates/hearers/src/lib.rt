@@ -1,6 +1,6 @@
 // A set of heads, kept as the bits of one number: head 1 in the lowest bit. The calendar's hearers are such a set. This crate is
 // the only one that looks at bits; it uses no other crate, and all above it speak of heads by their numbers, 1 to 64.
-#![tactic(auto)]
+#![tactic(auto, using(crate::proofs::Laws::as_reached), unfolding(crate::specs::Set::all_but))]
 
 ghost use Rattle.std.specs.Prelude.{◌≡◌, ◌≤◌, eqb, leb};
 ghost use Rattle.std.specs.Int.Count.{ones};
@@ -11,7 +11,7 @@ pub fn has(set: u64, i: u8) -> bool
     requires { (1 ≤ i) × (i ≤ 64) }
     ensures { result ≡ eqb (has set i) 1 }
 {
-    (set >> (i - 1)) % 2 == 1
+    set >> (i - 1) & 1 == 1
 }
 
 // The set of head i alone.
@@ -19,7 +19,7 @@ fn alone(i: u8) -> u64
     requires { (1 ≤ i) × (i ≤ 64) }
     ensures { result ≡ alone i }
 {
-    1u64 << (i - 1)
+    1 << (i - 1)
 }
 
 // The set without head i.
@@ -27,7 +27,7 @@ pub fn without(set: u64, i: u8) -> u64
     requires { (1 ≤ i) × (i ≤ 64) }
     ensures { result ≡ without set i }
 {
-    if has(set, i) { set - alone(i) } else { set }
+    set & !alone(i)
 }
 
 // Heads 1 to n, but for head i.
