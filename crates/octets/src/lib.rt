@@ -20,11 +20,10 @@ pub fn number(image: &[u8], at: usize, width: usize) -> u64
     requires { (width ≤ 8) × (at + width ≤ length image.now) }
     ensures { (result ≡ number_at image.now at width) × (result < 256 ^ width) }
 {
-    let mut x = 0;
-    for i in (at..at + width).rev() {
-        x = x * 256 + u64::from(image[i]);
-    }
-    x
+    image[at..at + width]
+        .iter()
+        .rev()
+        .fold(0, |x, byte| x << 8 | u64::from(*byte))
 }
 
 pub fn bits8(image: &[u8], at: usize) -> u8
