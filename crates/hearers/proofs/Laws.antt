@@ -2,7 +2,7 @@
 use Rattle.std.proofs.Common.{◌≡◌, refl, sym, ap, ◌∙◌, ℕ, zero, suc, ◌+◌, ◌-◌, ◌*◌, ◌/◌, ◌%◌, ◌^◌, ◌≤◌, ◌<◌, bit_and, arith, pow-suc, mul_assoc}
 use Rattle.std.proofs.lemmas.Nat.{one_shl, and_le_l, and_comm, and-not, pow_below}
 use Rattle.std.proofs.lemmas.Nat.Bits.{shr_and_one, and_pow, ones_shr, bit_at_lowest, bit_at-suc, bit_at-zero, bit_at_ones, bit_at_above}
-use native.Mathlib.Decide.{ℕ_discrete}
+use Rattle.std.proofs.Math.Decide.{ℕ_discrete}
 use Rattle.hearers.specs.Set.{has, alone, without, everyone}
 
 -- ---- the definitions as the code reaches them, by i - 1

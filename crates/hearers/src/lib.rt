@@ -30,12 +30,20 @@ pub fn without(set: u64, i: u8) -> u64
     set & !alone(i)
 }
 
+// The set of heads 1 to n.
+fn everyone(n: u8) -> u64
+    requires { (1 ≤ n) × (n ≤ 64) }
+    ensures { result ≡ everyone n }
+{
+    u64::MAX >> (64 - n)
+}
+
 // Heads 1 to n, but for head i.
 pub fn all_but(n: u8, i: u8) -> u64
     requires { (1 ≤ i) × (i ≤ n) × (n ≤ 64) }
     ensures { result ≡ all_but n i }
 {
-    without(u64::MAX >> (64 - n), i)
+    without(everyone(n), i)
 }
 
 // Whether the set holds no head above n.
@@ -43,12 +51,12 @@ pub fn within(set: u64, n: u8) -> bool
     requires { (1 ≤ n) × (n ≤ 64) }
     ensures { result ≡ leb set (everyone n) }
 {
-    set <= u64::MAX >> (64 - n)
+    set <= everyone(n)
 }
 
 // How many heads are in the set: the count of ones.
 pub fn count(set: u64) -> u32
     ensures { result ≡ ones set }
 {
-    u64::count_ones(set)
+    set.count_ones()
 }

@@ -1,15 +1,7 @@
 -- Bytes tell their numbers and numbers their bytes, at every width: for one number, for fields in a row, for the parts of the heads.
-use mathlib.Core.Path.{◌≡◌, refl, sym, ap₂, ◌∙◌}
-use mathlib.Core.Bool.{true}
-use mathlib.Core.Logic.{inl, inr}
-use mathlib.Core.List.{List, [], ◌∷◌, ◌++◌, append_assoc, append-nil}
-use Prim.Native.Nat.{ℕ, zero, suc, ◌+◌, ◌*◌, ◌/◌, ◌%◌, ◌^◌, ◌≤◌, ◌<◌}
-use native.Mathlib.Nat.{mul-zero, mul-suc}
-use native.Mathlib.Omega.{arith}
-use lib.Dec.{eqb}
-use lib.ListN.{length, get_or, take, drop, replicate, length-append, length-drop, length-replicate, length-set, take-append-drop}
-use lib.Seq.{append_snoc, take-append_seam, drop-append_seam, get_or-append_seam, drop-cons, take_all, take-add, drop-drop, get_or-set_same, get_or-set_other, ext_get_or}
-use borrow.Author.Tests.{eqb-true, eq-eqb}
+use Rattle.std.proofs.Common.{◌≡◌, refl, sym, ap₂, ◌∙◌, true, inl, inr, List, [], ◌∷◌, ◌++◌, append_assoc, append-nil, ℕ, zero, suc, ◌+◌, ◌*◌, ◌/◌, ◌%◌, ◌^◌, ◌≤◌, ◌<◌, mul-zero, mul-suc, arith, eqb, length, get_or, take, drop, replicate, length-append, length-drop, length-set, take-append-drop, drop-cons, take_all, take-add, drop-drop, get_or-set_same, get_or-set_other, ext_get_or, eqb-true, eq-eqb}
+use Rattle.std.proofs.Math.ListN.{length-replicate}
+use Rattle.std.proofs.Math.Seq.{append_snoc, take-append_seam, drop-append_seam, get_or-append_seam}
 use Rattle.rules.specs.Limits.{max_heads}
 use Rattle.rules.proofs.Each.{same_or_not, less_or_not, and_true, both}
 use Rattle.octets.specs.Bytes.{bytes_of, number_at, Bytes}

@@ -5,7 +5,7 @@ use Rattle.std.proofs.lemmas.Slice.{put_mid-paste}
 use Rattle.std.proofs.lemmas.Grind.{reverse_onto}
 use Rattle.std.proofs.lemmas.List.Sums.{fold-append}
 use Rattle.std.proofs.lemmas.Nat.{or_shifted, shl_whole}
-use native.Mathlib.Nat.{pow-le-pow_right}
+use Rattle.std.proofs.Math.Nat.{pow-le-pow_right}
 use Rattle.octets.specs.Bytes.{bytes_of, number_at, Bytes}
 use Rattle.octets.specs.Room.{stored}
 use Rattle.octets.proofs.Rows.{length_bytes, stored_sets, stored_front}

@@ -1,12 +1,6 @@
 -- Fields one after the other, the parts of the heads, and the places that hold what is read: what one turn of a loop adds.
-use mathlib.Core.Path.{◌≡◌, refl, sym, ap, ◌∙◌}
-use mathlib.Core.List.{List, [], ◌∷◌, ◌++◌}
-use Prim.Native.Nat.{ℕ, zero, suc, ◌+◌, ◌*◌, ◌/◌, ◌≤◌}
-use native.Mathlib.Nat.{add-zero, mul-zero, mul-suc}
-use native.Mathlib.Numerals.{add-one}
-use native.Mathlib.Omega.{arith}
-use lib.ListN.{length, drop, set, replicate, length-append}
-use lib.Seq.{sets, sets-eq}
+use Rattle.std.proofs.Common.{◌≡◌, refl, sym, ap, ◌∙◌, List, [], ◌∷◌, ◌++◌, ℕ, zero, suc, ◌+◌, ◌*◌, ◌/◌, ◌≤◌, add-zero, mul-zero, mul-suc, add-one, arith, length, drop, set, replicate, length-append}
+use Rattle.std.proofs.Math.Seq.{sets, sets-eq}
 use Rattle.rules.specs.Limits.{max_heads}
 use Rattle.octets.specs.Bytes.{bytes_of}
 use Rattle.octets.specs.Room.{stored}
