@@ -60,13 +60,14 @@ pub fn store(room: &mut [u8], at: usize, width: usize, x: u64)
 }
 
 // Writes what both images begin with: a mark, the version and N.
+#[tactic(auto, unfolding(crate::specs::Room::stored, crate::specs::Fields::in_bytes, crate::specs::Bytes::bytes_of))]
 pub fn store_opening(room: &mut [u8], mark: u64, n: u8)
     requires { opening ≤ length room.old }
     ensures { room.new ≡ stored room.old 0 (in_bytes (opening_fields mark n)) }
 {
     store(room, 0, 3, mark);
     store(room, VERSION_AT, 2, VERSION);
-    store(room, COUNT_AT, 1, n as u64);
+    store(room, COUNT_AT, 1, u64::from(n));
 }
 
 // Whether an image begins with this mark and with the version.
