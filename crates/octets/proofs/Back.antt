@@ -1,7 +1,8 @@
 -- Bytes tell their numbers and numbers their bytes, at every width: for one number, for fields in a row, for the parts of the heads.
-use Rattle.std.proofs.Common.{◌≡◌, refl, sym, ap₂, ◌∙◌, true, inl, inr, List, [], ◌∷◌, ◌++◌, append_assoc, append-nil, ℕ, zero, suc, ◌+◌, ◌*◌, ◌/◌, ◌%◌, ◌^◌, ◌≤◌, ◌<◌, mul-zero, mul-suc, arith, eqb, length, get_or, take, drop, replicate, length-append, length-drop, length-set, take-append-drop, drop-cons, take_all, take-add, drop-drop, get_or-set_same, get_or-set_other, ext_get_or, eqb-true, eq-eqb}
+use Rattle.std.proofs.Common.{◌≡◌, refl, sym, ap₂, ◌∙◌, true, inl, inr, List, [], ◌∷◌, ◌++◌, append_assoc, append-nil, ℕ, zero, suc, ◌+◌, ◌*◌, ◌/◌, ◌%◌, ◌^◌, ◌≤◌, ◌<◌, mul-zero, mul-suc, arith, eqb, length, get_or, take, drop, replicate, length-append, length-drop, length-set, take-append-drop, ◌-◌, drop-cons, take_all, take-add, drop-drop, get_or-set_same, get_or-set_other, ext_get_or, eqb-true, eq-eqb}
 use Rattle.std.proofs.Math.ListN.{length-replicate}
-use Rattle.std.proofs.Math.Seq.{append_snoc, take-append_seam, drop-append_seam, get_or-append_seam}
+use Rattle.std.proofs.Math.Seq.{append_snoc, take-append_seam, drop-append_seam}
+use Rattle.std.proofs.lemmas.Grind.{common_steps}
 use Rattle.rules.specs.Limits.{max_heads}
 use Rattle.rules.proofs.Each.{same_or_not, less_or_not, and_true, both}
 use Rattle.octets.specs.Bytes.{bytes_of, number_at, Bytes}
@@ -15,26 +16,13 @@ use Rattle.octets.proofs.Rows.{joined_long, length_bytes}
 pub number_back : (a b : List ℕ) (width x : ℕ) → x < 256 ^ width → number_at (a ++ (bytes_of width x ++ b)) (length a) width ≡ x
 unfolding number_at bytes_of
 number_back a b zero x h = omega arith
-number_back a b (suc width) x h =
-    let rest = bytes_of width (x / 256) ++ b in
-    let l = a ++ x % 256 ∷ rest in
-    let first : get_or l (length a) 0 ≡ x % 256 = get_or-append_seam a (x % 256) rest 0 in
-    let n : length (a ++ (x % 256 ∷ [])) ≡ suc (length a) = length-append a (x % 256 ∷ []) ∙ omega arith in
-    let others : number_at l (suc (length a)) width ≡ x / 256 =
-    rw (← n, ← append_snoc a (x % 256) rest) (number_back (a ++ (x % 256 ∷ [])) b width (x / 256) (omega arith)) in
-    omega arith
+number_back a b (suc width) x h = grind (arith, common_steps, append_snoc a (x % 256) (bytes_of width (x / 256) ++ b), length-append a (x % 256 ∷ []), number_back (a ++ (x % 256 ∷ [])) b width (x / 256) (omega arith))
 
 -- bytes are written back as they stood
 pub bytes_back : (l : List ℕ) → Bytes l → (k width : ℕ) → k + width ≤ length l → bytes_of width (number_at l k width) ≡ take width (drop k l)
 unfolding number_at bytes_of
 bytes_back l bytes k zero h = refl
-bytes_back l bytes k (suc width) h =
-    let b = get_or l k 0 in
-    let m = number_at l (suc k) width in
-    let under : b < 256 = bytes k in
-    let low : (b + 256 * m) % 256 ≡ b = omega arith in
-    let high : (b + 256 * m) / 256 ≡ m = omega arith in
-    rw (low, high, drop-cons l k 0 (omega arith), bytes_back l bytes (suc k) width (omega arith))
+bytes_back l bytes k (suc width) h = grind (arith, common_steps, bytes k, drop-cons l k 0 (omega arith), bytes_back l bytes (suc k) width (omega arith))
 
 -- ---- fields in a row
 
@@ -103,9 +91,7 @@ joined_back l front each (suc n) f g =
 -- ---- the places
 
 zeros : {A : Type 0} (d : A) (m k : ℕ) → get_or (replicate m d) k d ≡ d
-zeros d zero k = refl
-zeros d (suc m) zero = refl
-zeros d (suc m) (suc k) = zeros d m k
+zeros d m k = grind (arith, common_steps)
 
 pub places_long : {A : Type 0} (d : A) (f : ℕ → A) (n : ℕ) → length (places d f n) ≡ max_heads
 unfolding places
@@ -162,9 +148,7 @@ is_marked_lem m l e f = both (eq-eqb _ _ e) (eq-eqb _ _ f)
 -- ---- what is written is bytes
 
 pub bytes_append : (a b : List ℕ) → Bytes a → Bytes b → (i : ℕ) → get_or (a ++ b) i 0 < 256
-bytes_append [] b p q i = q i
-bytes_append (x ∷ a) b p q zero = p zero
-bytes_append (x ∷ a) b p q (suc i) = bytes_append a b (λ j. p (suc j)) q i
+bytes_append a b p q i = grind (arith, common_steps, p i, q (i - length a))
 
 bytes_number : (width x i : ℕ) → get_or (bytes_of width x) i 0 < 256
 unfolding bytes_of
