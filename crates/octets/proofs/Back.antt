@@ -1,10 +1,10 @@
 -- Bytes tell their numbers and numbers their bytes, at every width: for one number, for fields in a row, for the parts of the heads.
-use Rattle.std.proofs.Common.{◌≡◌, refl, sym, ap₂, ◌∙◌, true, inl, inr, List, [], ◌∷◌, ◌++◌, append_assoc, append-nil, ℕ, zero, suc, ◌+◌, ◌*◌, ◌/◌, ◌%◌, ◌^◌, ◌≤◌, ◌<◌, mul-zero, mul-suc, arith, eqb, length, get_or, take, drop, replicate, length-append, length-drop, length-set, take-append-drop, ◌-◌, drop-cons, take_all, take-add, drop-drop, get_or-set_same, get_or-set_other, ext_get_or, eqb-true, eq-eqb}
+use Rattle.std.proofs.Common.{◌≡◌, refl, sym, ◌∙◌, true, List, [], ◌∷◌, ◌++◌, append_assoc, append-nil, ℕ, zero, suc, ◌+◌, ◌*◌, ◌/◌, ◌%◌, ◌^◌, ◌≤◌, ◌<◌, mul-zero, mul-suc, arith, rules, tests, length, get_or, take, drop, replicate, length-append, ◌-◌, drop-cons, take-add, drop-drop, ext_get_or}
+use Rattle.std.proofs.Math.Decide.{ℕ_discrete}
 use Rattle.std.proofs.Math.ListN.{length-replicate}
 use Rattle.std.proofs.Math.Seq.{append_snoc, take-append_seam, drop-append_seam}
 use Rattle.std.proofs.lemmas.Grind.{common_steps}
 use Rattle.rules.specs.Limits.{max_heads}
-use Rattle.rules.proofs.Each.{same_or_not, less_or_not, and_true, both}
 use Rattle.octets.specs.Bytes.{bytes_of, number_at, Bytes}
 use Rattle.rules.specs.Room.{room_after}
 use Rattle.octets.specs.Fields.{Field, bits8, version, in_bytes, joined, places, is_marked}
@@ -69,9 +69,9 @@ row_back (w ∷ ws) l bytes k h =
 pub joined_split : (f : ℕ → List ℕ) (n k : ℕ) → k < n → (rest : List ℕ) × (joined n f ≡ joined k f ++ (f (suc k) ++ rest))
 unfolding joined
 joined_split f zero k h = absurd (omega arith)
-joined_split f (suc n) k h = elim (same_or_not k n) [
-  | inl e ↦ ([], rw (e, append-nil))
-  | inr e ↦ let r = joined_split f n k (omega arith) in (r.0 ++ f (suc n), rw r.1 (append_assoc (joined k f) (f (suc k) ++ r.0) (f (suc n)) ∙ rw (append_assoc (f (suc k)) r.0 (f (suc n)))))
+joined_split f (suc n) k h = elim (ℕ_discrete k n) [
+  | yes e ↦ ([], rw (e, append-nil))
+  | no e ↦ let r = joined_split f n k (omega arith) in (r.0 ++ f (suc n), rw r.1 (append_assoc (joined k f) (f (suc k) ++ r.0) (f (suc n)) ∙ rw (append_assoc (f (suc k)) r.0 (f (suc n)))))
 ]
 
 pub parts_back : (front : List ℕ) (each n k : ℕ) (fs : ℕ → List Field) → ((i : ℕ) → length (in_bytes (fs i)) ≡ each) → k < n → Fit (fs (suc k))
@@ -96,33 +96,28 @@ zeros d m k = grind (arith, common_steps)
 pub places_long : {A : Type 0} (d : A) (f : ℕ → A) (n : ℕ) → length (places d f n) ≡ max_heads
 unfolding places
 places_long d f zero = length-replicate max_heads d
-places_long d f (suc n) = length-set (places d f n) n (f (suc n)) ∙ places_long d f n
+places_long d f (suc n) = grind (arith, common_steps, places_long d f n)
 
 pub places_used : {A : Type 0} (d : A) (f : ℕ → A) (n k : ℕ) → k < n → n ≤ max_heads → get_or (places d f n) k d ≡ f (suc k)
 unfolding places
 places_used d f zero k h m = absurd (omega arith)
-places_used d f (suc n) k h m = elim (same_or_not k n) [
-  | inl e ↦ rw e (get_or-set_same (places d f n) n (f (suc n)) d (omega (arith, places_long d f n)))
-  | inr e ↦ get_or-set_other (places d f n) n k (f (suc n)) d e ∙ places_used d f n k (omega arith) (omega arith)
-]
+places_used d f (suc n) k h m = grind (arith, common_steps, places_long d f n, places_used d f n k)
 
 pub places_spare : {A : Type 0} (d : A) (f : ℕ → A) (n k : ℕ) → n ≤ k → get_or (places d f n) k d ≡ d
 unfolding places
 places_spare d f zero k h = zeros d max_heads k
-places_spare d f (suc n) k h = get_or-set_other (places d f n) n k (f (suc n)) d (λ e. omega arith) ∙ places_spare d f n k (omega arith)
+places_spare d f (suc n) k h = grind (arith, common_steps, places_spare d f n k)
 
 -- the places hold what a list holds, of which no more than n are used
 pub places_are : {A : Type 0} (d : A) (f : ℕ → A) (n : ℕ) (xs : List A) → length xs ≡ max_heads → n ≤ max_heads → ((k : ℕ) → k < n → f (suc k) ≡ get_or xs k d) → ((k : ℕ) → n ≤ k → get_or xs k d ≡ d)
     → places d f n ≡ xs
 places_are d f n xs l m used spare =
     ext_get_or d (places d f n) xs (places_long d f n ∙ sym l)
-    (λ k h. elim (less_or_not k n) [ inl e ↦ places_used d f n k e m ∙ used k e | inr e ↦ places_spare d f n k e ∙ sym (spare k e) ])
+    (λ k h. grind (arith, common_steps, places_used d f n k, places_spare d f n k, used k, spare k))
 
 -- a front and the parts behind it are all of the bytes
 pub two_parts : (l a b : List ℕ) (front each n : ℕ) → length l ≡ front + each * n → a ≡ take front l → b ≡ take (each * n) (drop front l) → a ++ b ≡ l
-two_parts l a b front each n w p q =
-    let all : take (each * n) (drop front l) ≡ drop front l = take_all (each * n) (drop front l) (omega (arith, length-drop front l)) in
-    ap₂ (λ (x y : List ℕ). x ++ y) p (q ∙ all) ∙ take-append-drop front l
+two_parts l a b front each n w p q = grind (arith, common_steps)
 
 -- ---- the room
 
@@ -139,11 +134,11 @@ room_past image room = drop-append_seam image (drop (length image) room)
 
 pub mark_is : (m : ℕ) (l : List ℕ) → is_marked m l ≡ true → (number_at l 0 3 ≡ m) × (number_at l 3 2 ≡ version)
 unfolding is_marked
-mark_is m l e = let r = and_true (eqb (number_at l 0 3) m) (eqb (number_at l 3 2) version) e in (eqb-true _ _ r.0, eqb-true _ _ r.1)
+mark_is m l e = search (rules, tests)
 
 pub is_marked_lem : (m : ℕ) (l : List ℕ) → number_at l 0 3 ≡ m → number_at l 3 2 ≡ version → is_marked m l ≡ true
 unfolding is_marked
-is_marked_lem m l e f = both (eq-eqb _ _ e) (eq-eqb _ _ f)
+is_marked_lem m l e f = grind (arith, common_steps)
 
 -- ---- what is written is bytes
 
@@ -153,8 +148,7 @@ bytes_append a b p q i = grind (arith, common_steps, p i, q (i - length a))
 bytes_number : (width x i : ℕ) → get_or (bytes_of width x) i 0 < 256
 unfolding bytes_of
 bytes_number zero x i = omega arith
-bytes_number (suc width) x zero = omega arith
-bytes_number (suc width) x (suc i) = bytes_number width (x / 256) i
+bytes_number (suc width) x i = grind (arith, common_steps, bytes_number width (x / 256) (i - 1))
 
 pub bytes_fields : (fs : List Field) → Bytes (in_bytes fs)
 unfolding in_bytes

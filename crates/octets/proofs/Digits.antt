@@ -1,8 +1,7 @@
 -- Numbers in bytes, at every width: what one turn of the code's two loops does.
-use Rattle.std.proofs.Common.{◌≡◌, refl, sym, ◌∙◌, List, [], ◌∷◌, ℕ, zero, suc, ◌+◌, ◌-◌, ◌*◌, ◌/◌, ◌%◌, ◌^◌, ◌≤◌, ◌<◌, ◌++◌, length, get_or, take, drop, set, reverse, fold, bit_or, drop-cons, arith, lt_of_lt_of_le, drop_of_length-le, append_assoc, append-nil, add-one}
-use Rattle.std.proofs.lemmas.List.Edits.{sets-eq, paste_all}
-use Rattle.std.proofs.lemmas.Slice.{put_mid-paste}
-use Rattle.std.proofs.lemmas.Grind.{reverse_onto}
+use Rattle.std.proofs.Common.{◌≡◌, refl, List, [], ◌∷◌, ℕ, zero, suc, ◌+◌, ◌-◌, ◌*◌, ◌/◌, ◌%◌, ◌^◌, ◌≤◌, ◌<◌, ◌++◌, length, get_or, take, drop, set, reverse, fold, bit_or, drop-cons, arith, lt_of_lt_of_le, add-one}
+use Rattle.std.proofs.lemmas.List.Edits.{sets-eq}
+use Rattle.std.proofs.lemmas.Grind.{common_steps, reverse_onto}
 use Rattle.std.proofs.lemmas.List.Sums.{fold-append}
 use Rattle.std.proofs.lemmas.Nat.{or_shifted, shl_whole}
 use Rattle.std.proofs.Math.Nat.{pow-le-pow_right}
@@ -48,15 +47,15 @@ store_more l v i width y h e =
 
 -- a part that has as many places as there are bytes becomes those bytes
 pub store_part : (part v : List ℕ) → length part ≡ length v → stored part 0 v ≡ v
-store_part part v e = let h : length part ≤ length v = omega arith in stored_front part v (omega arith) ∙ rw (drop_of_length-le, append-nil)
+store_part part v e = grind (arith, common_steps, stored_front part v)
 
 pub store_none : (part : List ℕ) (width x : ℕ) → length part ≡ width → stored part 0 (bytes_of (width - 0) x) ≡ bytes_of width x
 store_none part width x e = let p : width - 0 ≡ width = omega arith in rw p (store_part part (bytes_of width x) (omega (arith, length_bytes width x)))
 
 pub store_all : (part v : List ℕ) (i width y : ℕ) → width ≤ i → stored part i (bytes_of (width - i) y) ≡ v → part ≡ v
 unfolding stored bytes_of
-store_all part v i width y h e = let p : width - i ≡ 0 = omega arith in rw p at e
+store_all part v i width y h e = grind (arith, common_steps)
 
 -- the room, with the part back in its place
 pub store_back : (l part v : List ℕ) (at n : ℕ) → at + n ≤ length l → length v ≡ n → part ≡ v → take at l ++ (part ++ drop n (drop at l)) ≡ stored l at v
-store_back l part v at n h w e = put_mid-paste at n l part v n e refl (sym w) ∙ paste_all l at v n (sym w) ∙ rw (← w, ← append_assoc) (sym (sets-eq v l at (omega arith))) ∙ sym (stored_sets l at v)
+store_back l part v at n h w e = grind (arith, common_steps, sets-eq v l at, stored_sets l at v)
