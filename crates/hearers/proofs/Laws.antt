@@ -1,5 +1,5 @@
 -- What the rules need to know of sets of heads. Everything above this crate cites these laws and never looks at bits.
-use Rattle.std.proofs.Common.{◌≡◌, refl, sym, ap, ◌∙◌, ℕ, zero, suc, ◌+◌, ◌-◌, ◌*◌, ◌/◌, ◌%◌, ◌^◌, ◌≤◌, ◌<◌, bit_and, arith, pow-suc, mul_assoc}
+use Rattle.std.proofs.Common.{◌≡◌, refl, ◌∙◌, ℕ, zero, suc, ◌+◌, ◌-◌, ◌*◌, ◌/◌, ◌%◌, ◌^◌, ◌≤◌, ◌<◌, bit_and, arith, pow-suc}
 use Rattle.std.proofs.lemmas.Nat.{one_shl, and_le_l, and_comm, and-not, pow_below}
 use Rattle.std.proofs.lemmas.Nat.Bits.{shr_and_one, and_pow, ones_shr, bit_at_lowest, bit_at-suc, bit_at-zero, bit_at_ones, bit_at_above}
 use Rattle.std.proofs.Math.Decide.{ℕ_discrete}
@@ -50,14 +50,11 @@ without_lowest h = omega arith
 
 without_half : (h k : ℕ) → without h (suc (suc k)) ≡ without (h / 2) (suc k) * 2 + h % 2
 unfolding without alone
-without_half h k =
-    let e : has h (suc (suc k)) * 2 ^ suc k ≡ has (h / 2) (suc k) * 2 ^ k * 2 = ap (λ (x : ℕ). x * 2 ^ suc k) (has_half h k) ∙ ap (λ (x : ℕ). has (h / 2) (suc k) * x) (pow-suc 2 k) ∙ sym (mul_assoc (has (h / 2) (suc k)) (2 ^ k) 2) in
-    let l : has (h / 2) (suc k) * 2 ^ k ≤ h / 2 = alone_le (h / 2) (suc k) in
-    omega arith
+without_half h k = grind (arith, has_half h k, pow-suc 2 k, alone_le (h / 2) (suc k))
 
 -- a number whose half is q and whose lowest bit is b
 has_over : (q b k : ℕ) → b < 2 → has (q * 2 + b) (suc (suc k)) ≡ has q (suc k)
-has_over q b k h = has_half (q * 2 + b) k ∙ ap (λ (x : ℕ). has x (suc k)) (omega arith)
+has_over q b k h = grind (arith, has_half (q * 2 + b) k)
 
 -- ---- the laws
 
@@ -96,20 +93,17 @@ has_some h n = go h h (omega arith) (omega arith)
 pub without_same : (h i : ℕ) → has (without h i) i ≡ 0
 unfolding has
 without_same h zero = refl
-without_same h (suc zero) = has_lowest (without h 1) ∙ omega (arith, without_lowest h)
-without_same h (suc (suc k)) =
-    ap (λ (x : ℕ). has x (suc (suc k))) (without_half h k) ∙ has_over (without (h / 2) (suc k)) (h % 2) k (omega arith) ∙ without_same (h / 2) (suc k)
+without_same h (suc zero) = grind (arith, has_lowest (without h 1), without_lowest h)
+without_same h (suc (suc k)) = grind (arith, without_half h k, has_over (without (h / 2) (suc k)) (h % 2) k, without_same (h / 2) (suc k))
 
 pub without_other : (h i j : ℕ) → (j ≡ i → ⊥) → has (without h i) j ≡ has h j
 unfolding has without alone
 without_other h i zero n = refl
 without_other h zero (suc j) n = let e : h - 0 * 0 ≡ h = omega arith in rw e
 without_other h (suc zero) (suc zero) n = absurd (n refl)
-without_other h (suc zero) (suc (suc j)) n = ap (λ (x : ℕ). has x (suc (suc j))) (without_lowest h) ∙ has_half (h / 2 * 2) j ∙ ap (λ (x : ℕ). has x (suc j)) (omega arith) ∙ sym (has_half h j)
-without_other h (suc (suc k)) (suc zero) n = ap (λ (x : ℕ). has x 1) (without_half h k) ∙ omega arith
-without_other h (suc (suc k)) (suc (suc j)) n =
-    ap (λ (x : ℕ). has x (suc (suc j))) (without_half h k) ∙ has_over (without (h / 2) (suc k)) (h % 2) j (omega arith)
-    ∙ without_other (h / 2) (suc k) (suc j) (λ e. n (ap suc e)) ∙ sym (has_half h j)
+without_other h (suc zero) (suc (suc j)) n = grind (arith, without_lowest h, has_half (h / 2 * 2) j, has_half h j)
+without_other h (suc (suc k)) (suc zero) n = grind (arith, without_half h k)
+without_other h (suc (suc k)) (suc (suc j)) n = grind (arith, without_half h k, has_over (without (h / 2) (suc k)) (h % 2) j, has_half h j, without_other (h / 2) (suc k) (suc j))
 
 -- who is in the set of heads 1 to n
 pub everyone_in : (n j : ℕ) → 1 ≤ j → j ≤ n → has (everyone n) j ≡ 1
