@@ -20,11 +20,10 @@ pub fn number(image: &[u8], at: usize, width: usize) -> u64
     requires { (width ≤ 8) × (at + width ≤ length image.now) }
     ensures { (result ≡ number_at image.now at width) × (result < 256 ^ width) }
 {
-    let mut x = 0;
-    for i in (at..at + width).rev() {
-        x = x * 256 + u64::from(image[i]);
-    }
-    x
+    image[at..at + width]
+        .iter()
+        .rev()
+        .fold(0, |x, byte| x << 8 | u64::from(*byte))
 }
 
 pub fn bits8(image: &[u8], at: usize) -> u8
@@ -61,13 +60,14 @@ pub fn store(room: &mut [u8], at: usize, width: usize, x: u64)
 }
 
 // Writes what both images begin with: a mark, the version and N.
+#[tactic(auto, unfolding(crate::specs::Room::stored, crate::specs::Fields::in_bytes, crate::specs::Bytes::bytes_of))]
 pub fn store_opening(room: &mut [u8], mark: u64, n: u8)
     requires { opening ≤ length room.old }
     ensures { room.new ≡ stored room.old 0 (in_bytes (opening_fields mark n)) }
 {
     store(room, 0, 3, mark);
     store(room, VERSION_AT, 2, VERSION);
-    store(room, COUNT_AT, 1, n as u64);
+    store(room, COUNT_AT, 1, u64::from(n));
 }
 
 // Whether an image begins with this mark and with the version.
