@@ -1,51 +1,48 @@
 -- What the rules need to know of sets of heads. Everything above this crate cites these laws and never looks at bits.
-use mathlib.Core.Path.{◌≡◌, refl, sym, ap, ◌∙◌}
-use Prim.Native.Nat.{ℕ, zero, suc, ◌+◌, ◌-◌, ◌*◌, ◌/◌, ◌%◌, ◌^◌, ◌≤◌, ◌<◌}
-use native.Mathlib.Nat.{one-mul, zero-mul, pow-suc, mul_assoc, mod-le, mul-le-mul_right, le_trans, div-mul-le_self, div-eq_of_lt, lt_of_lt_of_le}
-use native.Mathlib.Numerals.{one-add}
-use native.Mathlib.Decide.{ℕ_discrete}
-use native.Mathlib.Omega.{arith}
-use lib.Pow.{shl_exact, high, ones_split, ones_lt, shr-shr, pow_pos, pow_mono}
-use lib.Dec.{lit<, eqb}
-use mathlib.Core.Bool.{true, false}
-use borrow.Author.Tests.{eqb-true, eqb-false}
+use Rattle.std.proofs.Common.{◌≡◌, refl, ◌∙◌, ℕ, zero, suc, ◌+◌, ◌-◌, ◌*◌, ◌/◌, ◌%◌, ◌^◌, ◌≤◌, ◌<◌, bit_and, arith, pow-suc}
+use Rattle.std.proofs.lemmas.Nat.{one_shl, and_le_l, and_comm, and-not, pow_below}
+use Rattle.std.proofs.lemmas.Nat.Bits.{shr_and_one, and_pow, ones_shr, bit_at_lowest, bit_at-suc, bit_at-zero, bit_at_ones, bit_at_above}
+use Rattle.std.proofs.Math.Decide.{ℕ_discrete}
 use Rattle.hearers.specs.Set.{has, alone, without, everyone}
 
 -- ---- the definitions as the code reaches them, by i - 1
 
-pub has_bit : (h i : ℕ) → 1 ≤ i → has h i ≡ h / 2 ^ (i - 1) % 2
+pub has_bit : (h i : ℕ) → 1 ≤ i → bit_and (h / 2 ^ (i - 1)) 1 ≡ has h i
 unfolding has
 has_bit h zero l = absurd (omega arith)
-has_bit h (suc k) l = let e : suc k - 1 ≡ k = omega arith in rw e
+has_bit h (suc k) l = let e : suc k - 1 ≡ k = omega arith in rw e (shr_and_one h k)
 
 pub alone_shifted : (i : ℕ) → 1 ≤ i → i ≤ 64 → (1 * 2 ^ (i - 1)) % 2 ^ 64 ≡ alone i
 unfolding alone
 alone_shifted zero l m = absurd (omega arith)
-alone_shifted (suc k) l m =
-    let e : suc k - 1 ≡ k = omega arith in
-    rw e (shl_exact {a = 1} 1 k 64 (lit< tt) (omega arith) ∙ one-mul (2 ^ k))
+alone_shifted (suc k) l m = let e : suc k - 1 ≡ k = omega arith in rw e (one_shl k 64 (omega arith))
+
+pub without_cleared : (h i : ℕ) → 1 ≤ i → i ≤ 64 → h < 2 ^ 64 → bit_and h (2 ^ 64 - 1 - alone i) ≡ without h i
+unfolding has alone without
+without_cleared h zero l m n = absurd (omega arith)
+without_cleared h (suc k) l m n = rw and_comm (omega (arith, and-not 64 (2 ^ k) h (pow_below k 64 (omega arith)) n, and_comm (2 ^ k) h, and_pow h k))
 
 pub everyone_shifted : (n : ℕ) → n ≤ 64 → 18446744073709551615 / 2 ^ (64 - n) ≡ everyone n
-everyone_shifted n h =
-    let e : n + (64 - n) ≡ 64 = omega arith in
-    ap (λ (x : ℕ). (2 ^ x - 1) / 2 ^ (64 - n)) (sym e) ∙ ap (λ (x : ℕ). x / 2 ^ (64 - n)) (ones_split n (64 - n)) ∙ high (2 ^ n - 1) (64 - n) (ones_lt (64 - n))
+everyone_shifted n h = let e : 64 - (64 - n) ≡ n = omega arith in rw e at (ones_shr 64 (64 - n) (omega arith))
+
+pub ruleset as_reached = (has_bit, alone_shifted, without_cleared, everyone_shifted)
 
 -- ---- head by head, through the halves of the number
 
 -- head k + 2 of h is head k + 1 of its half
 has_half : (h k : ℕ) → has h (suc (suc k)) ≡ has (h / 2) (suc k)
 unfolding has
-has_half h k = ap (λ (x : ℕ). x % 2) (ap (λ (x : ℕ). h / 2 ^ x) (sym (one-add k)) ∙ sym (shr-shr h 1 k))
+has_half h k = bit_at-suc h k
 
 has_lowest : (h : ℕ) → has h 1 ≡ h % 2
 unfolding has
-has_lowest h = omega arith
+has_lowest h = bit_at_lowest h
 
 -- what head i stands for is in the number
-pub alone_le : (h i : ℕ) → has h i * alone i ≤ h
+alone_le : (h i : ℕ) → has h i * alone i ≤ h
 unfolding has alone
 alone_le h zero = omega arith
-alone_le h (suc k) = le_trans (mul-le-mul_right (2 ^ k) (mod-le (h / 2 ^ k) 2)) (div-mul-le_self h (2 ^ k))
+alone_le h (suc k) = rw (← and_pow h k) (and_le_l h (2 ^ k))
 
 without_lowest : (h : ℕ) → without h 1 ≡ h / 2 * 2
 unfolding without has alone
@@ -53,14 +50,11 @@ without_lowest h = omega arith
 
 without_half : (h k : ℕ) → without h (suc (suc k)) ≡ without (h / 2) (suc k) * 2 + h % 2
 unfolding without alone
-without_half h k =
-    let e : has h (suc (suc k)) * 2 ^ suc k ≡ has (h / 2) (suc k) * 2 ^ k * 2 = ap (λ (x : ℕ). x * 2 ^ suc k) (has_half h k) ∙ ap (λ (x : ℕ). has (h / 2) (suc k) * x) (pow-suc 2 k) ∙ sym (mul_assoc (has (h / 2) (suc k)) (2 ^ k) 2) in
-    let l : has (h / 2) (suc k) * 2 ^ k ≤ h / 2 = alone_le (h / 2) (suc k) in
-    omega arith
+without_half h k = grind (arith, has_half h k, pow-suc 2 k, alone_le (h / 2) (suc k))
 
 -- a number whose half is q and whose lowest bit is b
 has_over : (q b k : ℕ) → b < 2 → has (q * 2 + b) (suc (suc k)) ≡ has q (suc k)
-has_over q b k h = has_half (q * 2 + b) k ∙ ap (λ (x : ℕ). has x (suc k)) (omega arith)
+has_over q b k h = grind (arith, has_half (q * 2 + b) k)
 
 -- ---- the laws
 
@@ -68,23 +62,6 @@ pub has_low : (h i : ℕ) → has h i ≤ 1
 unfolding has
 has_low h zero = omega arith
 has_low h (suc k) = omega arith
-
--- taking out a head that is in the set, and one that is not
-pub without_in : (h i : ℕ) → eqb (has h i) 1 ≡ true → without h i ≡ h - alone i
-unfolding without
-without_in h i e = ap (λ (x : ℕ). h - x) (ap (λ (x : ℕ). x * alone i) (eqb-true _ _ e) ∙ one-mul (alone i))
-
-pub alone_in : (h i : ℕ) → eqb (has h i) 1 ≡ true → alone i ≤ h
-alone_in h i e =
-    let m : has h i * alone i ≡ alone i = ap (λ (x : ℕ). x * alone i) (eqb-true _ _ e) ∙ one-mul (alone i) in
-    omega (arith, alone_le h i)
-
-pub without_out : (h i : ℕ) → eqb (has h i) 1 ≡ false → without h i ≡ h
-unfolding without
-without_out h i e =
-    let z : has h i ≡ 0 = omega (arith, has_low h i, eqb-false (has h i) 1 e) in
-    let m : has h i * alone i ≡ 0 = ap (λ (x : ℕ). x * alone i) z ∙ zero-mul (alone i) in
-    omega arith
 
 -- head 0 is in no set
 pub has_head : (h i : ℕ) → has h i ≡ 1 → 1 ≤ i
@@ -95,8 +72,7 @@ has_head h (suc k) e = omega arith
 pub has_none : (i : ℕ) → has 0 i ≡ 0
 unfolding has
 has_none zero = refl
-has_none (suc zero) = has_lowest 0
-has_none (suc (suc k)) = has_half 0 k ∙ has_none (suc k)
+has_none (suc k) = bit_at-zero k
 
 -- a set that is not empty has a member
 pub has_some : (h : ℕ) → (h ≡ 0 → ⊥) → (i : ℕ) × (has h i ≡ 1)
@@ -117,35 +93,29 @@ has_some h n = go h h (omega arith) (omega arith)
 pub without_same : (h i : ℕ) → has (without h i) i ≡ 0
 unfolding has
 without_same h zero = refl
-without_same h (suc zero) = has_lowest (without h 1) ∙ omega (arith, without_lowest h)
-without_same h (suc (suc k)) =
-    ap (λ (x : ℕ). has x (suc (suc k))) (without_half h k) ∙ has_over (without (h / 2) (suc k)) (h % 2) k (omega arith) ∙ without_same (h / 2) (suc k)
+without_same h (suc zero) = grind (arith, has_lowest (without h 1), without_lowest h)
+without_same h (suc (suc k)) = grind (arith, without_half h k, has_over (without (h / 2) (suc k)) (h % 2) k, without_same (h / 2) (suc k))
 
 pub without_other : (h i j : ℕ) → (j ≡ i → ⊥) → has (without h i) j ≡ has h j
 unfolding has without alone
 without_other h i zero n = refl
 without_other h zero (suc j) n = let e : h - 0 * 0 ≡ h = omega arith in rw e
 without_other h (suc zero) (suc zero) n = absurd (n refl)
-without_other h (suc zero) (suc (suc j)) n = ap (λ (x : ℕ). has x (suc (suc j))) (without_lowest h) ∙ has_half (h / 2 * 2) j ∙ ap (λ (x : ℕ). has x (suc j)) (omega arith) ∙ sym (has_half h j)
-without_other h (suc (suc k)) (suc zero) n = ap (λ (x : ℕ). has x 1) (without_half h k) ∙ omega arith
-without_other h (suc (suc k)) (suc (suc j)) n =
-    ap (λ (x : ℕ). has x (suc (suc j))) (without_half h k) ∙ has_over (without (h / 2) (suc k)) (h % 2) j (omega arith)
-    ∙ without_other (h / 2) (suc k) (suc j) (λ e. n (ap suc e)) ∙ sym (has_half h j)
+without_other h (suc zero) (suc (suc j)) n = grind (arith, without_lowest h, has_half (h / 2 * 2) j, has_half h j)
+without_other h (suc (suc k)) (suc zero) n = grind (arith, without_half h k)
+without_other h (suc (suc k)) (suc (suc j)) n = grind (arith, without_half h k, has_over (without (h / 2) (suc k)) (h % 2) j, has_half h j, without_other (h / 2) (suc k) (suc j))
 
 -- who is in the set of heads 1 to n
 pub everyone_in : (n j : ℕ) → 1 ≤ j → j ≤ n → has (everyone n) j ≡ 1
+unfolding has
 everyone_in n zero a b = absurd (omega arith)
-everyone_in zero (suc j) a b = absurd (omega arith)
-everyone_in (suc n) (suc zero) a b = has_lowest (everyone (suc n)) ∙ omega (arith, pow-suc 2 n, pow_pos n)
-everyone_in (suc n) (suc (suc j)) a b =
-    let e : everyone (suc n) ≡ everyone n * 2 + 1 = omega (arith, pow-suc 2 n, pow_pos n) in
-    ap (λ (x : ℕ). has x (suc (suc j))) e ∙ has_over (everyone n) 1 j (lit< tt) ∙ everyone_in n (suc j) (omega arith) (omega arith)
+everyone_in n (suc j) a b = bit_at_ones n j (omega arith)
 
 -- a number below 2 ^ n holds no head above n, and a number that holds none is below 2 ^ n
 pub has_above : (h n j : ℕ) → h < 2 ^ n → n < j → has h j ≡ 0
 unfolding has
 has_above h n zero l m = refl
-has_above h n (suc k) l m = ap (λ (x : ℕ). x % 2) (div-eq_of_lt (lt_of_lt_of_le l (pow_mono (omega arith))))
+has_above h n (suc k) l m = bit_at_above h n k l (omega arith)
 
 pub none_above : (n h : ℕ) → ((j : ℕ) → has h j ≡ 1 → j ≤ n) → h < 2 ^ n
 none_above zero h f = elim (ℕ_discrete h 0) [

@@ -1,6 +1,6 @@
 // A set of heads, kept as the bits of one number: head 1 in the lowest bit. The calendar's hearers are such a set. This crate is
 // the only one that looks at bits; it uses no other crate, and all above it speak of heads by their numbers, 1 to 64.
-#![tactic(auto)]
+#![tactic(auto, using(crate::proofs::Laws::as_reached), unfolding(crate::specs::Set::all_but))]
 
 ghost use Rattle.std.specs.Prelude.{◌≡◌, ◌≤◌, eqb, leb};
 ghost use Rattle.std.specs.Int.Count.{ones};
@@ -11,7 +11,7 @@ pub fn has(set: u64, i: u8) -> bool
     requires { (1 ≤ i) × (i ≤ 64) }
     ensures { result ≡ eqb (has set i) 1 }
 {
-    (set >> (i - 1)) % 2 == 1
+    set >> (i - 1) & 1 == 1
 }
 
 // The set of head i alone.
@@ -19,7 +19,7 @@ fn alone(i: u8) -> u64
     requires { (1 ≤ i) × (i ≤ 64) }
     ensures { result ≡ alone i }
 {
-    1u64 << (i - 1)
+    1 << (i - 1)
 }
 
 // The set without head i.
@@ -27,7 +27,15 @@ pub fn without(set: u64, i: u8) -> u64
     requires { (1 ≤ i) × (i ≤ 64) }
     ensures { result ≡ without set i }
 {
-    if has(set, i) { set - alone(i) } else { set }
+    set & !alone(i)
+}
+
+// The set of heads 1 to n.
+fn everyone(n: u8) -> u64
+    requires { (1 ≤ n) × (n ≤ 64) }
+    ensures { result ≡ everyone n }
+{
+    u64::MAX >> (64 - n)
 }
 
 // Heads 1 to n, but for head i.
@@ -35,7 +43,7 @@ pub fn all_but(n: u8, i: u8) -> u64
     requires { (1 ≤ i) × (i ≤ n) × (n ≤ 64) }
     ensures { result ≡ all_but n i }
 {
-    without(u64::MAX >> (64 - n), i)
+    without(everyone(n), i)
 }
 
 // Whether the set holds no head above n.
@@ -43,12 +51,12 @@ pub fn within(set: u64, n: u8) -> bool
     requires { (1 ≤ n) × (n ≤ 64) }
     ensures { result ≡ leb set (everyone n) }
 {
-    set <= u64::MAX >> (64 - n)
+    set <= everyone(n)
 }
 
 // How many heads are in the set: the count of ones.
 pub fn count(set: u64) -> u32
     ensures { result ≡ ones set }
 {
-    u64::count_ones(set)
+    set.count_ones()
 }

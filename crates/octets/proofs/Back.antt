@@ -1,17 +1,10 @@
 -- Bytes tell their numbers and numbers their bytes, at every width: for one number, for fields in a row, for the parts of the heads.
-use mathlib.Core.Path.{◌≡◌, refl, sym, ap₂, ◌∙◌}
-use mathlib.Core.Bool.{true}
-use mathlib.Core.Logic.{inl, inr}
-use mathlib.Core.List.{List, [], ◌∷◌, ◌++◌, append_assoc, append-nil}
-use Prim.Native.Nat.{ℕ, zero, suc, ◌+◌, ◌*◌, ◌/◌, ◌%◌, ◌^◌, ◌≤◌, ◌<◌}
-use native.Mathlib.Nat.{mul-zero, mul-suc}
-use native.Mathlib.Omega.{arith}
-use lib.Dec.{eqb}
-use lib.ListN.{length, get_or, take, drop, replicate, length-append, length-drop, length-replicate, length-set, take-append-drop}
-use lib.Seq.{append_snoc, take-append_seam, drop-append_seam, get_or-append_seam, drop-cons, take_all, take-add, drop-drop, get_or-set_same, get_or-set_other, ext_get_or}
-use borrow.Author.Tests.{eqb-true, eq-eqb}
+use Rattle.std.proofs.Common.{◌≡◌, refl, sym, ◌∙◌, true, List, [], ◌∷◌, ◌++◌, append_assoc, append-nil, ℕ, zero, suc, ◌+◌, ◌*◌, ◌/◌, ◌%◌, ◌^◌, ◌≤◌, ◌<◌, mul-zero, mul-suc, arith, rules, tests, length, get_or, take, drop, replicate, length-append, ◌-◌, drop-cons, take-add, drop-drop, ext_get_or}
+use Rattle.std.proofs.Math.Decide.{ℕ_discrete}
+use Rattle.std.proofs.Math.ListN.{length-replicate}
+use Rattle.std.proofs.Math.Seq.{append_snoc, take-append_seam, drop-append_seam}
+use Rattle.std.proofs.lemmas.Grind.{common_steps}
 use Rattle.rules.specs.Limits.{max_heads}
-use Rattle.rules.proofs.Each.{same_or_not, less_or_not, and_true, both}
 use Rattle.octets.specs.Bytes.{bytes_of, number_at, Bytes}
 use Rattle.rules.specs.Room.{room_after}
 use Rattle.octets.specs.Fields.{Field, bits8, version, in_bytes, joined, places, is_marked}
@@ -23,26 +16,13 @@ use Rattle.octets.proofs.Rows.{joined_long, length_bytes}
 pub number_back : (a b : List ℕ) (width x : ℕ) → x < 256 ^ width → number_at (a ++ (bytes_of width x ++ b)) (length a) width ≡ x
 unfolding number_at bytes_of
 number_back a b zero x h = omega arith
-number_back a b (suc width) x h =
-    let rest = bytes_of width (x / 256) ++ b in
-    let l = a ++ x % 256 ∷ rest in
-    let first : get_or l (length a) 0 ≡ x % 256 = get_or-append_seam a (x % 256) rest 0 in
-    let n : length (a ++ (x % 256 ∷ [])) ≡ suc (length a) = length-append a (x % 256 ∷ []) ∙ omega arith in
-    let others : number_at l (suc (length a)) width ≡ x / 256 =
-    rw (← n, ← append_snoc a (x % 256) rest) (number_back (a ++ (x % 256 ∷ [])) b width (x / 256) (omega arith)) in
-    omega arith
+number_back a b (suc width) x h = grind (arith, common_steps, append_snoc a (x % 256) (bytes_of width (x / 256) ++ b), length-append a (x % 256 ∷ []), number_back (a ++ (x % 256 ∷ [])) b width (x / 256) (omega arith))
 
 -- bytes are written back as they stood
 pub bytes_back : (l : List ℕ) → Bytes l → (k width : ℕ) → k + width ≤ length l → bytes_of width (number_at l k width) ≡ take width (drop k l)
 unfolding number_at bytes_of
 bytes_back l bytes k zero h = refl
-bytes_back l bytes k (suc width) h =
-    let b = get_or l k 0 in
-    let m = number_at l (suc k) width in
-    let under : b < 256 = bytes k in
-    let low : (b + 256 * m) % 256 ≡ b = omega arith in
-    let high : (b + 256 * m) / 256 ≡ m = omega arith in
-    rw (low, high, drop-cons l k 0 (omega arith), bytes_back l bytes (suc k) width (omega arith))
+bytes_back l bytes k (suc width) h = grind (arith, common_steps, bytes k, drop-cons l k 0 (omega arith), bytes_back l bytes (suc k) width (omega arith))
 
 -- ---- fields in a row
 
@@ -89,9 +69,9 @@ row_back (w ∷ ws) l bytes k h =
 pub joined_split : (f : ℕ → List ℕ) (n k : ℕ) → k < n → (rest : List ℕ) × (joined n f ≡ joined k f ++ (f (suc k) ++ rest))
 unfolding joined
 joined_split f zero k h = absurd (omega arith)
-joined_split f (suc n) k h = elim (same_or_not k n) [
-  | inl e ↦ ([], rw (e, append-nil))
-  | inr e ↦ let r = joined_split f n k (omega arith) in (r.0 ++ f (suc n), rw r.1 (append_assoc (joined k f) (f (suc k) ++ r.0) (f (suc n)) ∙ rw (append_assoc (f (suc k)) r.0 (f (suc n)))))
+joined_split f (suc n) k h = elim (ℕ_discrete k n) [
+  | yes e ↦ ([], rw (e, append-nil))
+  | no e ↦ let r = joined_split f n k (omega arith) in (r.0 ++ f (suc n), rw r.1 (append_assoc (joined k f) (f (suc k) ++ r.0) (f (suc n)) ∙ rw (append_assoc (f (suc k)) r.0 (f (suc n)))))
 ]
 
 pub parts_back : (front : List ℕ) (each n k : ℕ) (fs : ℕ → List Field) → ((i : ℕ) → length (in_bytes (fs i)) ≡ each) → k < n → Fit (fs (suc k))
@@ -111,40 +91,33 @@ joined_back l front each (suc n) f g =
 -- ---- the places
 
 zeros : {A : Type 0} (d : A) (m k : ℕ) → get_or (replicate m d) k d ≡ d
-zeros d zero k = refl
-zeros d (suc m) zero = refl
-zeros d (suc m) (suc k) = zeros d m k
+zeros d m k = grind (arith, common_steps)
 
 pub places_long : {A : Type 0} (d : A) (f : ℕ → A) (n : ℕ) → length (places d f n) ≡ max_heads
 unfolding places
 places_long d f zero = length-replicate max_heads d
-places_long d f (suc n) = length-set (places d f n) n (f (suc n)) ∙ places_long d f n
+places_long d f (suc n) = grind (arith, common_steps, places_long d f n)
 
 pub places_used : {A : Type 0} (d : A) (f : ℕ → A) (n k : ℕ) → k < n → n ≤ max_heads → get_or (places d f n) k d ≡ f (suc k)
 unfolding places
 places_used d f zero k h m = absurd (omega arith)
-places_used d f (suc n) k h m = elim (same_or_not k n) [
-  | inl e ↦ rw e (get_or-set_same (places d f n) n (f (suc n)) d (omega (arith, places_long d f n)))
-  | inr e ↦ get_or-set_other (places d f n) n k (f (suc n)) d e ∙ places_used d f n k (omega arith) (omega arith)
-]
+places_used d f (suc n) k h m = grind (arith, common_steps, places_long d f n, places_used d f n k)
 
 pub places_spare : {A : Type 0} (d : A) (f : ℕ → A) (n k : ℕ) → n ≤ k → get_or (places d f n) k d ≡ d
 unfolding places
 places_spare d f zero k h = zeros d max_heads k
-places_spare d f (suc n) k h = get_or-set_other (places d f n) n k (f (suc n)) d (λ e. omega arith) ∙ places_spare d f n k (omega arith)
+places_spare d f (suc n) k h = grind (arith, common_steps, places_spare d f n k)
 
 -- the places hold what a list holds, of which no more than n are used
 pub places_are : {A : Type 0} (d : A) (f : ℕ → A) (n : ℕ) (xs : List A) → length xs ≡ max_heads → n ≤ max_heads → ((k : ℕ) → k < n → f (suc k) ≡ get_or xs k d) → ((k : ℕ) → n ≤ k → get_or xs k d ≡ d)
     → places d f n ≡ xs
 places_are d f n xs l m used spare =
     ext_get_or d (places d f n) xs (places_long d f n ∙ sym l)
-    (λ k h. elim (less_or_not k n) [ inl e ↦ places_used d f n k e m ∙ used k e | inr e ↦ places_spare d f n k e ∙ sym (spare k e) ])
+    (λ k h. grind (arith, common_steps, places_used d f n k, places_spare d f n k, used k, spare k))
 
 -- a front and the parts behind it are all of the bytes
 pub two_parts : (l a b : List ℕ) (front each n : ℕ) → length l ≡ front + each * n → a ≡ take front l → b ≡ take (each * n) (drop front l) → a ++ b ≡ l
-two_parts l a b front each n w p q =
-    let all : take (each * n) (drop front l) ≡ drop front l = take_all (each * n) (drop front l) (omega (arith, length-drop front l)) in
-    ap₂ (λ (x y : List ℕ). x ++ y) p (q ∙ all) ∙ take-append-drop front l
+two_parts l a b front each n w p q = grind (arith, common_steps)
 
 -- ---- the room
 
@@ -161,24 +134,21 @@ room_past image room = drop-append_seam image (drop (length image) room)
 
 pub mark_is : (m : ℕ) (l : List ℕ) → is_marked m l ≡ true → (number_at l 0 3 ≡ m) × (number_at l 3 2 ≡ version)
 unfolding is_marked
-mark_is m l e = let r = and_true (eqb (number_at l 0 3) m) (eqb (number_at l 3 2) version) e in (eqb-true _ _ r.0, eqb-true _ _ r.1)
+mark_is m l e = search (rules, tests)
 
 pub is_marked_lem : (m : ℕ) (l : List ℕ) → number_at l 0 3 ≡ m → number_at l 3 2 ≡ version → is_marked m l ≡ true
 unfolding is_marked
-is_marked_lem m l e f = both (eq-eqb _ _ e) (eq-eqb _ _ f)
+is_marked_lem m l e f = grind (arith, common_steps)
 
 -- ---- what is written is bytes
 
 pub bytes_append : (a b : List ℕ) → Bytes a → Bytes b → (i : ℕ) → get_or (a ++ b) i 0 < 256
-bytes_append [] b p q i = q i
-bytes_append (x ∷ a) b p q zero = p zero
-bytes_append (x ∷ a) b p q (suc i) = bytes_append a b (λ j. p (suc j)) q i
+bytes_append a b p q i = grind (arith, common_steps, p i, q (i - length a))
 
 bytes_number : (width x i : ℕ) → get_or (bytes_of width x) i 0 < 256
 unfolding bytes_of
 bytes_number zero x i = omega arith
-bytes_number (suc width) x zero = omega arith
-bytes_number (suc width) x (suc i) = bytes_number width (x / 256) i
+bytes_number (suc width) x i = grind (arith, common_steps, bytes_number width (x / 256) (i - 1))
 
 pub bytes_fields : (fs : List Field) → Bytes (in_bytes fs)
 unfolding in_bytes

@@ -1,5 +1,5 @@
 -- Document 01, "The state": the state image, and what reads as one against a table.
-use Rattle.std.specs.Prelude.{Bool, ◌&&◌, ◌||◌, List, [], ◌∷◌, ◌++◌, ℕ, zero, suc, ◌+◌, ◌*◌, eqb, leb, length}
+use Rattle.std.specs.Prelude.{◌≡◌, Bool, true, false, Option, MatchOption, ◌&&◌, ◌||◌, List, [], ◌∷◌, ◌++◌, ℕ, zero, suc, ◌+◌, ◌*◌, eqb, leb, length}
 use Rattle.words.specs.declared.Refusal.TheVariants.{StateLength, StateMark, StateRule}
 use Rattle.words.specs.Refusal.{unless, first_refusal}
 use Rattle.rules.specs.declared.Table.{Table}
@@ -82,6 +82,10 @@ phase_from (suc (suc (suc k))) slot = Active slot
 unfoldable pub phase_known : ℕ → ℕ → Bool
 phase_known number slot = leb number active_number && (eqb number active_number || eqb slot 0)
 
+-- what is read where a test holds of it, and nothing where it fails
+abbrev pub Known : {A : Type 0} → Option A → Bool → A → Type 0
+Known r test x = MatchOption r (test ≡ false) (λ y. (test ≡ true) × (y ≡ x))
+
 -- the head whose fields stand from place k on, and whether its phase and slot are known
 unfoldable pub head_at : List ℕ → ℕ → Head
 head_at l k = head_in (phase_from (number_at l k 1) (number_at l (k + 1) 1)) (number_at l (k + 2) 4)
@@ -104,10 +108,6 @@ take_refusal n l =
     ∷ unless (is_marked state_mark l && eqb (count_in l) n) StateMark
     ∷ unless (every n (λ i. known_at l (head_place i))) StateRule
     ∷ [])
-
--- the state that the fields make, or an all-zero record
-abbrev pub take_state : ℕ → List ℕ → State
-take_state n l = or_blank (take_refusal n l) (state_in n l) blank
 
 -- "For a state image, whose table record is checked first (3): length 4; 5; 6."
 unfoldable pub read_state_refusal : Table → List ℕ → ℕ

@@ -4,20 +4,20 @@
 #![tactic(auto)]
 
 ghost use Rattle.std.specs.Prelude.{◌≡◌, ◌+◌, ◌≤◌, length, true};
-ghost use Rattle.words.specs.Refusal.{verdict_number, number_of};
+ghost use Rattle.words.specs.Answer.{Answers};
 ghost use Rattle.rules.specs.Each.{every};
 ghost use Rattle.rules.specs.Limits.{max_heads};
-ghost use Rattle.rules.specs.State.{no_head, head_of, blank};
+ghost use Rattle.rules.specs.State.{no_head, head_of};
 ghost use Rattle.rules.specs.Room.{Wrote};
 ghost use Rattle.rules.specs.Judge.{record_refusal};
 ghost use Rattle.rules.specs.Table.{table_fits};
 ghost use Rattle.octets.specs.Room.{stored};
-ghost use Rattle.octets.specs.Fields.{in_bytes, joined, places};
-ghost use Rattle.state_images.specs.StateImage.{hearers_place, state_front, head_length, state_length, calendar_fields, state_fields, head_fields, state_image, head_place, phase_from, phase_known, head_at, known_at, calendar_in, take_refusal, take_state, read_state_refusal, read_state};
+ghost use Rattle.octets.specs.Fields.{in_bytes, joined, places, Reads};
+ghost use Rattle.state_images.specs.StateImage.{hearers_place, state_front, head_length, state_length, calendar_fields, state_fields, head_fields, state_image, head_place, phase_from, phase_known, head_at, known_at, calendar_in, state_in, take_refusal, read_state_refusal, read_state, Known};
 
 use octets::{COUNT_AT, bits8, bits32, marked, number, store, store_opening};
-use rules::{Calendar, Head, Judged, Phase, State, Table, Written};
-use words::{Refusal, Verdict};
+use rules::{Calendar, Head, Phase, State, Table};
+use words::{Answer, Refusal};
 
 // The letters HST as one number, least byte first.
 const MARK: u64 = b'H' as u64 + 256 * (b'S' as u64 + 256 * (b'T' as u64));
@@ -40,53 +40,39 @@ const FRONT: usize = 28;
 
 const HEAD: usize = 6;
 
-// The number of the phase that has a slot.
-const ACTIVE: u8 = 3;
-
 // Writes a state's image into the room: refused with 3, 6 or 12, or the number of bytes.
-pub fn write(t: Table, s: State, room: &mut [u8]) -> Written
+pub fn write(t: Table, s: State, room: &mut [u8]) -> Result<usize, Refusal>
     ensures { Wrote result (record_refusal t s) (state_image s) room.old room.new }
 {
-    let v = s.check(t);
-    let Verdict::Accepted = v else {
-        return Written {
-            verdict: v,
-            bytes: 0,
-        };
-    };
+    s.check(t)?;
     write_fit(s, room)
 }
 
 // The same for a state that is known to fit: only the room can be too short.
-pub fn write_fit(s: State, room: &mut [u8]) -> Written
+pub fn write_fit(s: State, room: &mut [u8]) -> Result<usize, Refusal>
     requires { s.n ≤ max_heads }
     ensures { Wrote result 0 (state_image s) room.old room.new }
 {
-    let need = FRONT + HEAD * (s.n as usize);
+    let need = FRONT + HEAD * s.n as usize;
     if room.len() < need {
-        return Written {
-            verdict: Verdict::Refused(Refusal::ShortRoom),
-            bytes: 0,
-        };
+        return Err(Refusal::ShortRoom);
     }
     store_front(room, s);
     store_heads(room, s);
-    Written {
-        verdict: Verdict::Accepted,
-        bytes: need,
-    }
+    Ok(need)
 }
 
+#[tactic(auto, unfolding(octets::specs::Room::stored, octets::specs::Fields::in_bytes, octets::specs::Bytes::bytes_of))]
 fn store_front(room: &mut [u8], s: State)
     requires { state_front ≤ length room.old }
     ensures { room.new ≡ stored room.old 0 (in_bytes (state_fields s)) }
 {
     store_opening(room, MARK, s.n);
     store(room, CLOCK_AT, 4, s.clock as u64);
-    let c = s.calendar;
-    store_calendar(room, c);
+    store_calendar(room, s.calendar);
 }
 
+#[tactic(auto, unfolding(octets::specs::Room::stored, octets::specs::Fields::in_bytes, octets::specs::Bytes::bytes_of))]
 fn store_calendar(room: &mut [u8], c: Calendar)
     requires { state_front ≤ length room.old }
     ensures { room.new ≡ stored room.old hearers_place (in_bytes (calendar_fields c)) }
@@ -102,91 +88,72 @@ fn store_heads(room: &mut [u8], s: State)
     requires { (s.n ≤ max_heads) × (state_length s.n ≤ length room.old) }
     ensures { room.new ≡ stored room.old state_front (joined s.n (λ i. in_bytes (head_fields (head_of s.heads i)))) }
 {
-    let n = s.n as usize;
-    let mut k: usize = 0;
-    while k < n {
-        let h = s.heads[k];
-        store_head(room, FRONT + HEAD * k, h);
-        k += 1;
+    for (k, &head) in s.heads[..s.n as usize].iter().enumerate() {
+        store_head(room, FRONT + HEAD * k, head);
     }
 }
 
+#[tactic(auto, unfolding(octets::specs::Room::stored, octets::specs::Fields::in_bytes, octets::specs::Bytes::bytes_of))]
 fn store_head(room: &mut [u8], at: usize, h: Head)
     requires { at + head_length ≤ length room.old }
     ensures { room.new ≡ stored room.old at (in_bytes (head_fields h)) }
 {
-    let p = h.phase;
-    store(room, at, 1, p.number() as u64);
-    store(room, at + 1, 1, p.slot() as u64);
+    store(room, at, 1, h.phase.number() as u64);
+    store(room, at + 1, 1, h.phase.slot() as u64);
     store(room, at + 2, 4, h.timeout as u64);
 }
 
 // Reads a state's image against a table: the state, or 3, 4, 5 or 6 with an all-zero record.
-pub fn read(t: Table, image: &[u8]) -> Judged
-    ensures { (verdict_number result.verdict ≡ read_state_refusal t image.now) × (result.state ≡ read_state t image.now) }
+pub fn read(t: Table, image: &[u8]) -> Answer<State>
+    ensures { Answers result (read_state_refusal t image.now) (read_state t image.now) }
 {
-    let v = t.check();
-    let Verdict::Accepted = v else {
-        return none(Refusal::TableRange);
-    };
-    read_fit(t, image)
+    match t.check() {
+        Ok(()) => read_fit(t, image),
+        Err(why) => Err(why.with(State::blank())),
+    }
 }
 
 // The same against a table that is known to fit.
-pub fn read_fit(t: Table, image: &[u8]) -> Judged
+pub fn read_fit(t: Table, image: &[u8]) -> Answer<State>
     requires { table_fits t ≡ true }
-    ensures { (verdict_number result.verdict ≡ read_state_refusal t image.now) × (result.state ≡ read_state t image.now) }
+    ensures { Answers result (read_state_refusal t image.now) (read_state t image.now) }
 {
-    let got = take(image, t.n);
-    let w = got.verdict;
-    let Verdict::Accepted = w else {
-        return got;
-    };
-    let s = got.state;
-    if !s.fits(t) {
-        return none(Refusal::StateRule);
-    }
-    got
+    take_fit(t, image).map_err(|why| why.with(State::blank()))
 }
 
-fn none(x: Refusal) -> Judged
-    ensures { (verdict_number result.verdict ≡ number_of x) × (result.state ≡ blank) }
+// The state whose fields stand in the image, if it fits the table.
+#[tactic(auto, unfolding(crate::specs::StateImage::read_state_refusal, rules::specs::State::state_refusal, rules::specs::Table::table_refusal, words::specs::Refusal::first_refusal, words::specs::Refusal::unless))]
+fn take_fit(t: Table, image: &[u8]) -> Result<State, Refusal>
+    requires { table_fits t ≡ true }
+    ensures { Reads result (read_state_refusal t image.now) (state_in t.n image.now) }
 {
-    let s = State::blank();
-    Judged {
-        verdict: Verdict::Refused(x),
-        state: s,
+    let s = take(image, t.n)?;
+    if s.fits(t) {
+        Ok(s)
+    } else {
+        Err(Refusal::StateRule)
     }
 }
 
 // Takes the fields of the image of a state of n heads; refused with 4, 5, or 6 for a phase number or a slot.
-fn take(image: &[u8], n: u8) -> Judged
+#[tactic(auto, unfolding(crate::specs::StateImage::take_refusal, crate::specs::StateImage::state_in, words::specs::Refusal::first_refusal, words::specs::Refusal::unless))]
+fn take(image: &[u8], n: u8) -> Result<State, Refusal>
     requires { n ≤ max_heads }
-    ensures { (verdict_number result.verdict ≡ take_refusal n image.now) × (result.state ≡ take_state n image.now) }
+    ensures { Reads result (take_refusal n image.now) (state_in n image.now) }
 {
-    if image.len() != FRONT + HEAD * (n as usize) {
-        return none(Refusal::StateLength);
+    if image.len() != FRONT + HEAD * n as usize {
+        return Err(Refusal::StateLength);
     }
-    if !marked(image, MARK) {
-        return none(Refusal::StateMark);
+    if !marked(image, MARK) || bits8(image, COUNT_AT) != n {
+        return Err(Refusal::StateMark);
     }
-    if bits8(image, COUNT_AT) != n {
-        return none(Refusal::StateMark);
-    }
-    if !all_known(image, n) {
-        return none(Refusal::StateRule);
-    }
-    let c = take_calendar(image);
-    let hs = take_heads(image, n);
-    Judged {
-        verdict: Verdict::Accepted,
-        state: State {
-            clock: bits32(image, CLOCK_AT),
-            n: n,
-            calendar: c,
-            heads: hs,
-        },
-    }
+    let heads = take_heads(image, n as usize).ok_or(Refusal::StateRule)?;
+    Ok(State {
+        clock: bits32(image, CLOCK_AT),
+        n,
+        calendar: take_calendar(image),
+        heads,
+    })
 }
 
 fn take_calendar(image: &[u8]) -> Calendar
@@ -202,69 +169,39 @@ fn take_calendar(image: &[u8]) -> Calendar
     }
 }
 
-// Whether every head has a known phase, and no slot where it isn't active.
-fn all_known(image: &[u8], n: u8) -> bool
+// The heads, if the phase of each is known, in places of which those above n are zero.
+fn take_heads(image: &[u8], n: usize) -> Option<[Head; State::MAX_HEADS]>
     requires { (n ≤ max_heads) × (state_length n ≤ length image.now) }
-    ensures { result ≡ every n (λ i. known_at image.now (head_place i)) }
+    ensures { Known result (every n (λ i. known_at image.now (head_place i))) (places no_head (λ i. head_at image.now (head_place i)) n) }
 {
-    let mut k: usize = 0;
-    while k < n as usize {
-        let at = FRONT + HEAD * k;
-        if !known(bits8(image, at), bits8(image, at + 1)) {
-            return false;
-        }
-        k += 1;
+    let mut heads = [Head::ZERO; State::MAX_HEADS];
+    for (k, head) in heads[..n].iter_mut().enumerate() {
+        *head = take_head(image, FRONT + HEAD * k)?;
     }
-    true
+    Some(heads)
 }
 
-fn known(phase: u8, slot: u8) -> bool
-    ensures { result ≡ phase_known phase slot }
-{
-    if ACTIVE < phase {
-        return false;
-    }
-    if phase == ACTIVE {
-        return true;
-    }
-    slot == 0
-}
-
-fn take_heads(image: &[u8], n: u8) -> [Head; 64]
-    requires { (n ≤ max_heads) × (state_length n ≤ length image.now) }
-    ensures { result ≡ places no_head (λ i. head_at image.now (head_place i)) n }
-{
-    let mut hs = [Head {
-        phase: Phase::Init,
-        timeout: 0,
-    }; State::MAX_HEADS];
-    let mut k: usize = 0;
-    while k < n as usize {
-        let h = take_head(image, FRONT + HEAD * k);
-        hs[k] = h;
-        k += 1;
-    }
-    hs
-}
-
-fn take_head(image: &[u8], at: usize) -> Head
+#[tactic(auto, unfolding(crate::specs::StateImage::head_at, crate::specs::StateImage::known_at))]
+fn take_head(image: &[u8], at: usize) -> Option<Head>
     requires { at + head_length ≤ length image.now }
-    ensures { result ≡ head_at image.now at }
+    ensures { Known result (known_at image.now at) (head_at image.now at) }
 {
-    let p = phase_from(bits8(image, at), bits8(image, at + 1));
-    Head {
-        phase: p,
+    Some(Head {
+        phase: phase_from(bits8(image, at), bits8(image, at + 1))?,
         timeout: bits32(image, at + 2),
-    }
+    })
 }
 
-fn phase_from(number: u8, slot: u8) -> Phase
-    ensures { result ≡ phase_from number slot }
+// The phase of a number and a slot, which only an active head has.
+#[tactic(auto, unfolding(crate::specs::StateImage::phase_from, crate::specs::StateImage::phase_known))]
+fn phase_from(number: u8, slot: u8) -> Option<Phase>
+    ensures { Known result (phase_known number slot) (phase_from number slot) }
 {
-    match number {
-        0 => Phase::Init,
-        1 => Phase::Listen,
-        2 => Phase::Coldstart,
-        _ => Phase::Active(slot),
+    match (number, slot) {
+        (0, 0) => Some(Phase::Init),
+        (1, 0) => Some(Phase::Listen),
+        (2, 0) => Some(Phase::Coldstart),
+        (3, _) => Some(Phase::Active(slot)),
+        _ => None,
     }
 }

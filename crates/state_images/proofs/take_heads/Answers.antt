@@ -1,19 +1,25 @@
-use native.Mathlib.Omega.{arith}
+use Rattle.std.proofs.Common.{refl, sym, suc, arith}
+use Rattle.rules.specs.Each.{every}
 use Rattle.rules.specs.State.{no_head}
-use Rattle.octets.specs.Fields.{places}
-use Rattle.octets.proofs.Rows.{places_none, places_more, done}
-use Rattle.state_images.specs.StateImage.{head_place, head_at}
-use borrow.Author.Rules.{rules}
+use Rattle.rules.proofs.Each.{every_more, every_fails, every_done}
+use Rattle.octets.proofs.Taken.{taken_none, taken_more, taken_all}
+use Rattle.state_images.specs.StateImage.{head_place, known_at}
 use Rattle.state_images.proofs.take_heads.Goals as goal
 
 pub loop-k-init : goal.loop-k-init
-loop-k-init c = (search rules, search rules, search rules, places_none no_head _)
+unfolding every
+loop-k-init c = (refl, taken_none no_head _ c.args.n c.requires.0)
+
+pub returns-in_err-head : goal.returns-in_err-head
+returns-in_err-head c = rw c.from_residual.ensures (every_fails c.args.n _ (suc c.loop-k.k) (omega arith) (omega (arith, c.loop-k.invariant.1.long)) c.in_err-head.ensures)
 
 pub loop-k-preserved : goal.loop-k-preserved
-loop-k-preserved c = let w = c.loop-k in (search rules, search rules, search rules, places_more no_head _ w.k _ _ w.invariant.3 c.take_head-h.ensures)
+loop-k-preserved c =
+    let w = c.loop-k in
+    let h = c.in_ok-head.ensures in
+    (every_more w.k _ w.invariant.0 h.0, taken_more no_head _ c.args.n c.requires.0 w.k w.head-items _ (omega (arith, w.invariant.1.long)) w.invariant.1 h.1)
 
 pub returns : goal.returns
 returns c =
     let w = c.loop-k in
-    let a = c.args in
-    done (places no_head (λ i. head_at a.image.now (head_place i))) a.n w.k _ (omega arith) (omega arith) w.invariant.3
+    (sym (every_done c.args.n w.k (λ i. known_at c.args.image.now (head_place i)) w.invariant.0 (omega (arith, w.invariant.1.long)) (omega (arith, w.invariant.1.long))), taken_all no_head _ c.args.n c.requires.0 w.k w.head-items (omega (arith, w.invariant.1.long)) w.invariant.1)
