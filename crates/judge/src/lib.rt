@@ -6,15 +6,15 @@ ghost use Rattle.words.specs.Answer.{Answers};
 ghost use Rattle.words.specs.Pair.{step_of};
 ghost use Rattle.rules.specs.Judge.{refusal, judged};
 
-use rules::{State, Table};
+use rules::{Fit, State, Table};
 use words::{Answer, Step};
 
 // The next state of an accepted step, or the refusal and the state as it was given.
 pub fn step(t: Table, s: State, x: Step) -> Answer<State>
     ensures { Answers result (refusal t s x) (judged t s x) }
 {
-    match s.check(t) {
-        Ok(()) => steps::attempt(t, s, x),
+    match Fit::of(t, s) {
+        Ok(fit) => steps::attempt(fit, x),
         Err(why) => Err(why.with(s)),
     }
 }

@@ -66,7 +66,6 @@ module _ (t : Table) where
 -- ---- the verdict on a state
 
 module _ (t : Table) (s : State) where
-
   -- the clock of a state whose front fits
   pub front_clock : front_fits t s ≡ true → s.clock ≤ ceiling
   unfolding front_fits

@@ -4,9 +4,12 @@
 #![tactic(auto)]
 
 mod calendars;
+mod fit;
 mod phases;
 mod states;
 mod tables;
+
+pub use fit::Fit;
 
 // A head table: N heads, slots of S ticks, propagation P, and a wake tick for each head; wake places above N are zero.
 #[derive(Clone, Copy, PartialEq, Eq, Debug)]

@@ -1,8 +1,6 @@
 // The step list: every step that is accepted now, in lent room.
-ghost use Rattle.std.specs.Prelude.{◌≡◌, true, ◌+◌, ◌≤◌};
+ghost use Rattle.std.specs.Prelude.{◌≡◌, ◌+◌, ◌≤◌};
 ghost use Rattle.rules.specs.Limits.{max_heads};
-ghost use Rattle.rules.specs.Table.{table_fits};
-ghost use Rattle.rules.specs.State.{state_fits};
 ghost use Rattle.runs.specs.Open.{open_to, open_steps};
 ghost use Rattle.rules.specs.Judge.{record_refusal};
 ghost use Rattle.rules.specs.Room.{Wrote};
@@ -10,7 +8,7 @@ ghost use Rattle.runs.specs.Listing.{list_image};
 ghost use Rattle.runs.specs.Gathered.{most_bytes, no_pairs, Holds, Adds};
 
 use crate::search::hear_due;
-use rules::{State, Table};
+use rules::{Fit, State, Table};
 use steps::{instant, timeouts};
 use words::{Refusal, Step};
 
@@ -49,16 +47,14 @@ impl Pairs {
 pub fn open_steps(t: Table, s: State, room: &mut [u8]) -> Result<usize, Refusal>
     ensures { Wrote result (record_refusal t s) (list_image t s) room.old room.new }
 {
-    s.check(t)?;
-    open_steps_fit(t, s, room)
+    open_steps_fit(Fit::of(t, s)?, room)
 }
 
-// The same for a table and a state that are known to fit: only the room can be too short.
-pub fn open_steps_fit(t: Table, s: State, room: &mut [u8]) -> Result<usize, Refusal>
-    requires { (table_fits t ≡ true) × (state_fits t s ≡ true) }
-    ensures { Wrote result 0 (list_image t s) room.old room.new }
+// The same for a table and a state that fit: only the room can be too short.
+pub fn open_steps_fit(fit: Fit, room: &mut [u8]) -> Result<usize, Refusal>
+    ensures { Wrote result 0 (list_image fit.table fit.state) room.old room.new }
 {
-    let found = open_pairs(t, s);
+    let found = open_pairs(fit);
     let bytes = &found.bytes[..found.used];
     if room.len() < bytes.len() {
         return Err(Refusal::ShortRoom);
@@ -68,10 +64,11 @@ pub fn open_steps_fit(t: Table, s: State, room: &mut [u8]) -> Result<usize, Refu
 }
 
 // What is due; where nothing is, advance alone, unless it would pass the ceiling.
-fn open_pairs(t: Table, s: State) -> Pairs
-    requires { (table_fits t ≡ true) × (state_fits t s ≡ true) }
-    ensures { Holds result (open_steps t s) }
+fn open_pairs(fit: Fit) -> Pairs
+    ensures { Holds result (open_steps fit.table fit.state) }
 {
+    let t = fit.table;
+    let s = fit.state;
     let mut found = due_pairs(s, t.n);
     if found.used == 0 && instant(&timeouts(s), t.n, s.calendar) <= State::CEILING {
         found.push(Step::Advance);

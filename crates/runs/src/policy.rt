@@ -1,41 +1,36 @@
 // A run by the fixed policy: the first step of the step list, again and again.
-ghost use Rattle.std.specs.Prelude.{◌≡◌, true, min};
-ghost use Rattle.rules.specs.Table.{table_fits};
-ghost use Rattle.rules.specs.State.{state_fits};
+ghost use Rattle.std.specs.Prelude.{◌≡◌, min};
 ghost use Rattle.runs.specs.Run.{told};
 ghost use Rattle.runs.specs.Chosen.{longest_run, policy_from, policy};
 
 use crate::run::Run;
 use crate::{Ran, stopped};
-use rules::{State, Table};
+use rules::{Fit, State, Table};
 use steps::place;
 
 // Plays up to count steps, a count above the longest run taken as the longest. It stops early, with nothing refused, where no step is open.
 pub fn run_policy(t: Table, s: State, count: usize) -> Ran
     ensures { told result ≡ policy t s count }
 {
-    let verdict = s.check(t);
-    let Ok(()) = verdict else {
-        return stopped(s, 0, verdict);
-    };
-    run_policy_fit(t, s, count)
+    match Fit::of(t, s) {
+        Ok(fit) => run_policy_fit(fit, count),
+        Err(why) => stopped(s, 0, Err(why)),
+    }
 }
 
-// The same on a table and a state that are known to fit.
-pub fn run_policy_fit(t: Table, s: State, count: usize) -> Ran
-    requires { (table_fits t ≡ true) × (state_fits t s ≡ true) }
-    ensures { told result ≡ policy_from t s 0 (min count longest_run) }
+// The same on a table and a state that fit.
+pub fn run_policy_fit(fit: Fit, count: usize) -> Ran
+    ensures { told result ≡ policy_from fit.table fit.state 0 (min count longest_run) }
 {
-    policy_from(t, s, count.min(Ran::LONGEST))
+    policy_from(fit, count.min(Ran::LONGEST))
 }
 
 // What the search finds is due; only an advance can be refused, by the ceiling. A step leaves nothing due at heads below the one that
 // moved, so the next search starts there.
-fn policy_from(t: Table, s: State, count: usize) -> Ran
-    requires { (table_fits t ≡ true) × (state_fits t s ≡ true) }
-    ensures { told result ≡ policy_from t s 0 count }
+fn policy_from(fit: Fit, count: usize) -> Ran
+    ensures { told result ≡ policy_from fit.table fit.state 0 count }
 {
-    let mut run = Run::on(t, s);
+    let mut run = Run::on(fit);
     let mut from: usize = 0;
     for taken in 0..count {
         let x = run.first_due(from);

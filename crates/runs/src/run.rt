@@ -8,7 +8,7 @@ ghost use Rattle.steps.specs.Parts.{place, timeouts};
 ghost use Rattle.runs.specs.Open.{open_to, first_due};
 
 use crate::search::first_due;
-use rules::{State, Table};
+use rules::{Fit, State, Table};
 use steps::{advancing, hearing, instant, place, sending, timeouts, timing};
 use words::{Step, Verdict};
 
@@ -25,15 +25,14 @@ pub struct Run {
 impl Run {
     ghost use Rattle.runs.specs.Stepped.{Stepped};
 
-    pub fn on(table: Table, state: State) -> Run
-        requires { (table_fits table ≡ true) × (state_fits table state ≡ true) }
-        ensures table { result.table ≡ table }
-        ensures state { result.state ≡ state }
+    pub fn on(fit: Fit) -> Run
+        ensures table { result.table ≡ fit.table }
+        ensures state { result.state ≡ fit.state }
     {
         Run {
-            table,
-            state,
-            due: timeouts(state),
+            table: fit.table,
+            state: fit.state,
+            due: timeouts(fit.state),
         }
     }
 

@@ -4,17 +4,15 @@
 // the record checks in front of it for everybody else.
 #![tactic(auto)]
 
-ghost use Rattle.std.specs.Prelude.{◌≡◌, true, ◌≤◌};
+ghost use Rattle.std.specs.Prelude.{◌≡◌, ◌≤◌};
 ghost use Rattle.rules.specs.Limits.{max_heads};
 ghost use Rattle.words.specs.Refusal.{verdict_number};
 ghost use Rattle.words.specs.Answer.{Answers};
-ghost use Rattle.rules.specs.Table.{table_fits};
-ghost use Rattle.rules.specs.State.{state_fits};
 ghost use Rattle.rules.specs.Judge.{step_refusal, state_after};
 ghost use Rattle.steps.specs.Parts.{part_refusal, calendar_after, head_after};
 ghost use Rattle.steps.specs.Ready.{Ready};
 
-use rules::{Calendar, Head, State, Table};
+use rules::{Calendar, Fit, Head, State, Table};
 use words::{Answer, Step, Verdict};
 
 pub mod advancing;
@@ -27,10 +25,11 @@ pub use advancing::instant;
 pub use places::{place, timeouts};
 
 // A proposed step on a table and a state that fit: the next state, or the refusal (7 to 11, 13) and the state as it was given.
-pub fn attempt(t: Table, s: State, x: Step) -> Answer<State>
-    requires { (table_fits t ≡ true) × (state_fits t s ≡ true) }
-    ensures { Answers result (step_refusal t s x) (state_after t s x (step_refusal t s x)) }
+pub fn attempt(fit: Fit, x: Step) -> Answer<State>
+    ensures { Answers result (step_refusal fit.table fit.state x) (state_after fit.table fit.state x (step_refusal fit.table fit.state x)) }
 {
+    let t = fit.table;
+    let s = fit.state;
     let c = s.calendar;
     let at = place(x.head());
     let h = s.heads[at];

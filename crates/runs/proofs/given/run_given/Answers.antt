@@ -1,17 +1,18 @@
-use Rattle.std.proofs.Common.{◌∙◌}
+use Rattle.std.proofs.Common.{◌≡◌, ◌∙◌, sym, ap}
+use Rattle.std.proofs.lemmas.Result.{IfOk-at_ok}
 use Rattle.words.proofs.Order.{accepted_zero, refused_some}
-use Rattle.rules.proofs.Checks.{accepted_record}
+use Rattle.words.specs.Refusal.{verdict_number}
 use Rattle.runs.specs.Run.{run}
 use Rattle.runs.proofs.Laws.{unfit, fit}
 use Rattle.runs.proofs.given.run_given.Goals as goal
 
-pub returns-in_default : goal.returns-in_default
+pub returns-in-Err : goal.returns-in-Err
 unfolding run
-returns-in_default c = c.stopped.ensures ∙ unfit _ _ _ _ c.check-verdict.ensures (refused_some c.check-verdict.result _ _ c.check-verdict.ensures c.in_default.is)
+returns-in-Err c = c.stopped.ensures ∙ unfit _ _ _ _ (sym (ap verdict_number c.in-Err.is) ∙ c.of.ensures.number) (refused_some c.of.result _ _ c.of.ensures.number c.in-Err.is)
 
-pub run_given_fit-requires : goal.run_given_fit-requires
-run_given_fit-requires c = accepted_record _ _ (accepted_zero c.check-verdict.result _ _ c.check-verdict.ensures c.in-Ok.is)
-
-pub returns : goal.returns
+pub returns-in-Ok : goal.returns-in-Ok
 unfolding run
-returns c = c.run_given_fit.ensures ∙ fit _ _ _ (accepted_zero c.check-verdict.result _ _ c.check-verdict.ensures c.in-Ok.is)
+returns-in-Ok c =
+    let t = IfOk-at_ok (λ f. f.table ≡ c.args.t) c.in-Ok.is c.of.ensures.table in
+    let s = IfOk-at_ok (λ f. f.state ≡ c.args.s) c.in-Ok.is c.of.ensures.state in
+    (rw (t, s) at c.run_given_fit.ensures) ∙ fit _ _ _ (accepted_zero c.of.result _ _ c.of.ensures.number c.in-Ok.is)

@@ -7,6 +7,6 @@ use Rattle.steps.proofs.places.timeouts.Goals as goal
 
 pub returns : goal.returns
 returns c =
-  let m = c.map.ensures.items in
-  let each : (j : ℕ) → j < max_heads → get_or c.map.result j 0 ≡ timeout_in (get_or c.args.s.heads j no_head) = λ j l. let q = m.at j no_head 0 l in search rules in
-  timeouts_all _ max_heads _ (state_places c.args.s _ c.well_formed.0) (omega arith) record { places = m.long; so_far = each }
+    let m = c.map.ensures.items in
+    let each : (j : ℕ) → j < max_heads → get_or c.map.result j 0 ≡ timeout_in (get_or c.args.s.heads j no_head) = λ j l. let q = m.at j no_head 0 l in search rules in
+    timeouts_all _ max_heads _ (state_places c.args.s _ c.well_formed.0) (omega arith) record { places = m.long; so_far = each }
