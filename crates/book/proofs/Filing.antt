@@ -1,77 +1,39 @@
 -- Tails, new entries and releases, case by case and in the code's own terms: each return of a function cites one law.
 use mathlib.Core.Path.{◌≡◌, refl, sym, ap, ◌∙◌}
-use mathlib.Core.Bool.{false, not}
+use mathlib.Core.Bool.{not}
+use mathlib.Core.Logic.{inl, inr}
 use mathlib.Core.List.{[], ◌∷◌}
-use Prim.Native.Nat.{ℕ, ◌+◌, ◌-◌, ◌≤◌}
+use Rattle.std.specs.Prelude.{Result, Ok, Err}
+use Prim.Native.Nat.{ℕ, suc, ◌+◌, ◌-◌, ◌≤◌}
 use native.Mathlib.Numerals.{add-one}
 use native.Mathlib.Omega.{arith}
 use lib.Dec.{eqb, ltb}
-use lib.ListN.{get_or, set}
+use lib.ListN.{set}
 use borrow.Author.Tests.{eq-eqb, ne_eqb, lt-ltb, le-ltb}
 use Rattle.words.specs.declared.Refusal.{Refusal}
 use Rattle.words.specs.declared.Refusal.TheVariants.{NoFreePlace, NoSuchEntry, NoNumberLeft}
-use Rattle.words.specs.declared.Verdict.TheVariants.{Accepted, Refused}
-use Rattle.words.specs.Refusal.{number_of, verdict_number}
+use Rattle.words.specs.declared.answers.Refused.{Refused}
+use Rattle.words.specs.Refusal.{number_of}
+use Rattle.words.specs.Answer.{Answers}
 use Rattle.words.proofs.Order.{unless_not, is_unless, first_some, first_none, first_last, row_first, row_past, number_some}
-use Rattle.book.specs.declared.Entry.{Entry}
+use Rattle.rules.proofs.Each.{same_or_not}
 use Rattle.book.specs.declared.Book.{Book}
-use Rattle.book.specs.declared.Booked.{Booked}
-use Rattle.book.specs.Limits.{most_tails, last_number}
-use Rattle.book.specs.Book.{no_entry, no_crossing, last_crossing, place_of, hold_refusal, rules_refusal, book_refusal}
-use Rattle.book.specs.Calls.{Answers, is_tail, one_more, counted, tailed, place_refusal, number_refusal, entry_refusal, entered, book_after, held_refusal, release_refusal, released, release_answer}
-use Rattle.book.proofs.Rows.{at_before, put_before, put_nowhere}
+use Rattle.book.specs.Limits.{last_number}
+use Rattle.book.specs.Rows.{put}
+use Rattle.book.specs.Book.{no_entry, place_of, hold_refusal, rules_refusal, book_refusal}
+use Rattle.book.specs.Calls.{place_refusal, number_refusal, entry_refusal, entered, book_after, held_refusal, release_refusal, released, release_answer}
+use Rattle.book.proofs.Rows.{put_before}
 
 -- ---- what a call answers
 
-module _ (r : Booked) (given next : Book) where
-  pub refused_answer : (x : Refusal) (number : ℕ) → (r.verdict ≡ Refused x) × (r.book ≡ given) → number_of x ≡ number → Answers r number (book_after given next number)
+module _ (given next : Book) (number : ℕ) where
+  pub refused_answer : (r : Refused Book) (x : Refusal) → r.why ≡ x → r.back ≡ given → number_of x ≡ number → Answers (Err r) number (book_after given next number)
   unfolding book_after
-  refused_answer x number a e = (ap verdict_number a.0 ∙ e, a.1 ∙ rw (ne_eqb number 0 (λ z. omega (arith, number_some x, e))))
+  refused_answer r x w k e = (ap number_of w ∙ e, k ∙ rw (ne_eqb number 0 (λ z. omega (arith, number_some x, e))))
 
-  pub accepted_answer : (number : ℕ) → (r.verdict ≡ Accepted) × (r.book ≡ next) → 0 ≡ number → Answers r number (book_after given next number)
+  pub accepted_answer : (b : Book) → b ≡ next → 0 ≡ number → Answers (Ok b) number (book_after given next number)
   unfolding book_after
-  accepted_answer number a e = (ap verdict_number a.0 ∙ e, a.1 ∙ rw (eq-eqb number 0 (sym e)))
-
--- ---- tails
-
-module _ (b : Book) (i clock : ℕ) (l : 1 ≤ i) where
-  pub tail_none : (get_or b.remembered (i - 1) no_crossing).number ≡ 0 → false ≡ is_tail b i clock
-  unfolding is_tail
-  tail_none e = rw (at_before no_crossing b.remembered i l, eq-eqb _ _ e)
-
-  pub tail_age : ((get_or b.remembered (i - 1) no_crossing).number ≡ 0 → ⊥) → ltb (clock - (get_or b.remembered (i - 1) no_crossing).tick) b.hold ≡ is_tail b i clock
-  unfolding is_tail
-  tail_age n = rw (at_before no_crossing b.remembered i l, ne_eqb _ _ n)
-
-  pub tail_past : (((last_crossing b i).number ≡ 0 → ⊥) → (last_crossing b i).tick ≤ clock) → ((get_or b.remembered (i - 1) no_crossing).number ≡ 0 → ⊥) → (get_or b.remembered (i - 1) no_crossing).tick ≤ clock
-  tail_past m n = (rw (at_before no_crossing b.remembered i l) at m) n
-
-  -- counted nowhere, and counted where the crossing stands
-  module _ (p : ℕ) (e : p ≡ place_of b.places (get_or b.remembered (i - 1) no_crossing).number) where
-    pub tailed_nowhere : p ≡ 0 → record { hold = b.hold; given = b.given; latest = clock; remembered = b.remembered; places = b.places } ≡ tailed b i clock
-    unfolding tailed counted
-    tailed_nowhere z = rw (at_before no_crossing b.remembered i l, ← e, z) rw (put_nowhere b.places 0 _ refl)
-
-    abbrev here : Entry
-    here = get_or b.places (p - 1) no_entry
-
-    pub tailed_there : (p ≡ 0 → ⊥) → (tails : ℕ) → tails ≡ one_more (get_or b.places (p - 1) no_entry).tails → record {
-      hold = b.hold;
-      given = b.given;
-      latest = clock;
-      remembered = b.remembered;
-      places = set b.places (p - 1) (record { number = here.number; tick = here.tick; head = here.head; tails = tails });
-    } ≡ tailed b i clock
-    unfolding tailed counted
-    tailed_there n tails q = rw (at_before no_crossing b.remembered i l, ← e, put_before b.places p _ (omega arith), at_before no_entry b.places p (omega arith), q)
-
-pub tails_most : (tails : ℕ) → tails ≡ most_tails → tails ≡ one_more tails
-unfolding one_more
-tails_most tails e = omega arith
-
-pub tails_more : (tails : ℕ) → (tails ≡ most_tails → ⊥) → tails ≤ most_tails → tails + 1 ≡ one_more tails
-unfolding one_more
-tails_more tails n m = omega arith
+  accepted_answer b q e = (e, q ∙ rw (eq-eqb number 0 (sym e)))
 
 -- ---- new entries
 
@@ -96,15 +58,15 @@ module _ (b : Book) (p : ℕ) (e : p ≡ place_of b.places 0) where
   unfolding number_refusal
   enters n g m = sym (some_place n ∙ is_unless (ltb b.given last_number) NoNumberLeft (lt-ltb b.given last_number (omega arith)))
 
-  pub entered_there : (p ≡ 0 → ⊥) → (i tick clock : ℕ) → 1 ≤ i → record {
-    hold = b.hold;
-    given = b.given + 1;
-    latest = clock;
-    remembered = set b.remembered (i - 1) (record { number = b.given + 1; tick = tick });
-    places = set b.places (p - 1) (record { number = b.given + 1; tick = tick; head = i; tails = 0 });
-  } ≡ entered b i tick clock
-  unfolding entered
-  entered_there n i tick clock l = rw (← e, put_before b.places p _ (omega arith), put_before b.remembered i _ l, add-one)
+pub entered_there : (b : Book) (p i tick clock : ℕ) → suc p ≡ place_of b.places 0 → 1 ≤ i → record {
+  hold = b.hold;
+  given = b.given + 1;
+  latest = clock;
+  remembered = set b.remembered (i - 1) (record { number = b.given + 1; tick = tick });
+  places = set b.places p (record { number = b.given + 1; tick = tick; head = i; tails = 0 });
+} ≡ entered b i tick clock
+unfolding entered put
+entered_there b p i tick clock e l = rw (← e, put_before b.remembered i _ l, add-one)
 
 -- ---- releases
 
@@ -122,9 +84,12 @@ module _ (b : Book) (number : ℕ) where
     unfolding held_refusal
     is_held m = sym (is_unless _ NoSuchEntry (rw (ne_eqb _ _ n, ← e, ne_eqb _ _ m)))
 
-    pub released_there : (p ≡ 0 → ⊥) → record { hold = b.hold; given = b.given; latest = b.latest; remembered = b.remembered; places = set b.places (p - 1) no_entry } ≡ released b number
-    unfolding released
-    released_there m = rw (← e, put_before b.places p no_entry (omega arith))
+  pub nowhere_held : 0 ≡ place_of b.places number → number_of NoSuchEntry ≡ held_refusal b number
+  nowhere_held e = elim (same_or_not number 0) [ inl z ↦ none_held z | inr n ↦ not_held 0 e n refl ]
+
+  pub released_there : (p : ℕ) → suc p ≡ place_of b.places number → record { hold = b.hold; given = b.given; latest = b.latest; remembered = b.remembered; places = set b.places p no_entry } ≡ released b number
+  unfolding released put
+  released_there p e = rw (← e)
 
   -- the refusals of a book come before a release's own
   pub release_book : (book_refusal b ≡ 0 → ⊥) → book_refusal b ≡ release_refusal b number
@@ -135,11 +100,11 @@ module _ (b : Book) (number : ℕ) where
   unfolding release_refusal book_refusal
   release_own z = sym (first_last (held_refusal b number)) ∙ row_past (hold_refusal b.hold) (rules_refusal b) _ z
 
-  pub release_refused : (r : Booked) → verdict_number r.verdict ≡ book_refusal b → r.book ≡ b → (book_refusal b ≡ 0 → ⊥) → Answers r (release_refusal b number) (release_answer b number)
-  unfolding release_answer book_after
-  release_refused r v k n = (v ∙ release_book n, k ∙ rw (ne_eqb _ _ (λ z. n (release_book n ∙ z))))
+  pub release_refused : (r : Refused Book) → number_of r.why ≡ book_refusal b → r.back ≡ b → Answers (Err r) (release_refusal b number) (release_answer b number)
+  unfolding release_answer
+  release_refused r w k = let n : book_refusal b ≡ 0 → ⊥ = λ z. omega (arith, number_some r.why) in refused_answer b _ _ r r.why refl k (w ∙ release_book n)
 
-  pub release_judged : (r : Booked) → book_refusal b ≡ 0 → Answers r (held_refusal b number) (book_after b (released b number) (held_refusal b number)) → Answers r (release_refusal b number) (release_answer b number)
+  pub release_judged : (r : Result Book (Refused Book)) → book_refusal b ≡ 0 → Answers r (held_refusal b number) (book_after b (released b number) (held_refusal b number)) → Answers r (release_refusal b number) (release_answer b number)
   unfolding release_answer
   release_judged r z a = (a.0 ∙ release_own z, a.1 ∙ ap (book_after b (released b number)) (release_own z))
 

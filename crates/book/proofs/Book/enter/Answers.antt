@@ -1,13 +1,15 @@
-use mathlib.Core.Path.{◌∙◌}
+use Rattle.std.proofs.Common.{refl, arith, rules}
+use Rattle.words.specs.declared.Refusal.TheVariants.{NoFreePlace, NoNumberLeft}
 use Rattle.book.proofs.Filing.{refused_answer, accepted_answer, no_place, no_number, enters, entered_there}
-use borrow.Author.Rules.{rules}
 use Rattle.book.proofs.Book.enter.Goals as goal
 
-pub returns-then-p-eq0 : goal.returns-then-p-eq0
-returns-then-p-eq0 c = refused_answer _ _ _ _ _ c.refused.ensures (no_place _ _ c.find-p.ensures.0 c.if-p-eq0.true)
+pub returns-in_default : goal.returns-in_default
+returns-in_default c = refused_answer _ _ _ c.with.result NoFreePlace c.with.ensures.why c.with.ensures.back (no_place c.args.self 0 (search rules) refl)
 
-pub returns-then-self-eq-LAST_NUMBER : goal.returns-then-self-eq-LAST_NUMBER
-returns-then-self-eq-LAST_NUMBER c = refused_answer _ _ _ _ _ c.refused-then-self-eq-LAST_NUMBER.ensures (no_number _ _ c.find-p.ensures.0 c.if-p-eq0.false c.if-self-eq-LAST_NUMBER.true)
+pub returns-then-self : goal.returns-then-self
+returns-then-self c = refused_answer _ _ _ c.with-then-self.result NoNumberLeft c.with-then-self.ensures.why c.with-then-self.ensures.back (no_number _ _ c.in-Some.ensures.place (omega arith) c.if-self.true)
 
 pub returns : goal.returns
-returns c = accepted_answer _ _ _ _ (c.accepted.ensures.0, c.accepted.ensures.1 ∙ entered_there _ _ c.find-p.ensures.0 c.if-p-eq0.false _ _ _ c.requires.0) (enters _ _ c.find-p.ensures.0 c.if-p-eq0.false c.if-self-eq-LAST_NUMBER.false (search rules))
+returns c =
+    let a = c.args in
+    accepted_answer a.self _ _ _ (entered_there a.self c.in-Some.p a.head a.tick a.clock c.in-Some.ensures.place c.requires.0) (enters _ _ c.in-Some.ensures.place (omega arith) c.if-self.false (search rules))

@@ -1,11 +1,11 @@
-use mathlib.Core.Path.{refl}
-use Rattle.words.proofs.Order.{accepted_zero, refused_some}
+use Rattle.std.proofs.Common.{ap, ◌∙◌}
+use Rattle.words.specs.Refusal.{number_of}
+use Rattle.words.proofs.Order.{accepted_zero}
 use Rattle.book.proofs.Filing.{release_refused, release_judged}
-use borrow.Author.Rules.{rules}
 use Rattle.book.proofs.Book.release.Goals as goal
 
-pub returns-in_default : goal.returns-in_default
-returns-in_default c = release_refused _ _ (record { verdict = c.check-v.result; book = c.args.self }) c.check-v.ensures refl (refused_some c.check-v.result _ _ c.check-v.ensures c.in_default.is)
+pub returns-in-Ok : goal.returns-in-Ok
+returns-in-Ok c = release_judged _ _ c.release_fit.result (accepted_zero c.check.result _ _ c.check.ensures c.in-Ok.is) c.release_fit.ensures
 
-pub returns : goal.returns
-returns c = release_judged _ _ c.release_fit.result (accepted_zero c.check-v.result _ c.check-v.ensures (search rules)) c.release_fit.ensures
+pub returns-in-Err : goal.returns-in-Err
+returns-in-Err c = release_refused _ _ c.with.result (ap number_of c.with.ensures.why ∙ c.in-Err.ensures) c.with.ensures.back

@@ -1,12 +1,16 @@
-use mathlib.Core.Path.{◌∙◌}
-use Rattle.book.proofs.Filing.{refused_answer, accepted_answer, none_held, not_held, is_held, released_there}
+use Rattle.std.proofs.Common.{arith}
+use Rattle.words.specs.declared.Refusal.TheVariants.{NoSuchEntry}
+use Rattle.book.proofs.Filing.{refused_answer, accepted_answer, none_held, nowhere_held, is_held, released_there}
+use Rattle.book.proofs.Book.release_fit.Goals.{in_default-via-in-Some+else-number-ne0, in_default-via-in_default}
 use Rattle.book.proofs.Book.release_fit.Goals as goal
 
-pub returns-then-number-eq0 : goal.returns-then-number-eq0
-returns-then-number-eq0 c = refused_answer _ _ _ _ _ c.refused.ensures (none_held _ _ c.if-number-eq0.true)
+pub returns-in-Some : goal.returns-in-Some
+returns-in-Some c =
+    let p = c.in-Some.ensures.place in
+    accepted_answer c.args.self _ _ _ (released_there c.args.self c.args.number c.in-Some.p p) (is_held _ _ _ p c.if-number-ne0.true (omega arith))
 
-pub returns-then-p-eq0 : goal.returns-then-p-eq0
-returns-then-p-eq0 c = refused_answer _ _ _ _ _ c.refused-then-p-eq0.ensures (not_held _ _ _ c.find-p.ensures.0 c.if-number-eq0.false c.if-p-eq0.true)
-
-pub returns : goal.returns
-returns c = accepted_answer _ _ _ _ (c.accepted.ensures.0, c.accepted.ensures.1 ∙ released_there _ _ _ c.find-p.ensures.0 c.if-number-eq0.false c.if-p-eq0.false) (is_held _ _ _ c.find-p.ensures.0 c.if-number-eq0.false c.if-p-eq0.false)
+pub returns-in_default : goal.returns-in_default
+returns-in_default c = refused_answer _ _ _ c.with.result NoSuchEntry c.with.ensures.why c.with.ensures.back (elim c.in_default.branch [
+  | in_default-via-in-Some+else-number-ne0 w ↦ none_held _ _ w.if-number-ne0.false
+  | in_default-via-in_default w ↦ nowhere_held _ _ w.in_default.ensures.place
+])

@@ -1,18 +1,11 @@
-use mathlib.Core.Path.{refl}
-use Rattle.rules.specs.Each.{every}
-use Rattle.book.proofs.Rules.{crossings_all, crossings_more, crossings_fail}
-use borrow.Author.Rules.{rules}
+use Rattle.std.proofs.Common.{◌∙◌, rules}
+use Rattle.std.proofs.lemmas.Iterator.{YieldsList-from_slice}
+use Rattle.std.proofs.lemmas.Iterator.Search.{all_from_yields_List}
+use Rattle.book.specs.Book.{crossing_fits}
+use Rattle.book.proofs.Rules.{crossings_row}
 use Rattle.book.proofs.checks.crossings_fit.Goals as goal
 
-pub loop-k-init : goal.loop-k-init
-unfolding every
-loop-k-init c = (search rules, refl)
-
-pub returns-then-not-crossing_fits : goal.returns-then-not-crossing_fits
-returns-then-not-crossing_fits c = crossings_fail _ _ _ _ _ c.crossing_fits.ensures (search rules) c.if-not-crossing_fits.true
-
-pub loop-k-preserved : goal.loop-k-preserved
-loop-k-preserved c = (search rules, crossings_more _ _ _ _ _ c.crossing_fits.ensures c.loop-k.invariant.1 c.if-not-crossing_fits.false)
-
 pub returns : goal.returns
-returns c = crossings_all _ _ _ _ c.loop-k.invariant.1 (search rules) (search rules)
+returns c =
+    let a = c.args in
+    all_from_yields_List (λ x. crossing_fits a.given a.latest x) _ _ _ c.all.ensures.ran (YieldsList-from_slice a.cs (cc)) (λ x b q k. search rules) ∙ crossings_row a.given a.latest a.cs (search rules)

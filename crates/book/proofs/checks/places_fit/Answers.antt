@@ -1,18 +1,28 @@
-use mathlib.Core.Path.{refl}
-use Rattle.rules.specs.Each.{every}
-use Rattle.book.proofs.Rules.{places_all, places_more, places_fail}
-use borrow.Author.Rules.{rules}
+use Rattle.std.proofs.Common.{◌∙◌, ◌≡◌, ℕ, ◌<◌, ◌≤◌, ◌+◌, eqb, get_or, take, map, ap, rules, arith}
+use Rattle.std.specs.List.{list_any}
+use Rattle.std.proofs.lemmas.Iterator.{YieldsList-from_slice}
+use Rattle.std.proofs.lemmas.Iterator.Adapters.{serves_from_places}
+use Rattle.std.proofs.lemmas.Iterator.Consumers.{YieldsList-from_enumerate}
+use Rattle.std.proofs.lemmas.Iterator.Search.{all_from_yields_List}
+use Rattle.std.proofs.lemmas.List.FromFn.{length-enumerate_from, get_or-enumerate_from}
+use Rattle.rules.proofs.Filled.{filled_all}
+use Rattle.book.specs.Limits.{all_places}
+use Rattle.book.specs.Book.{no_entry, number_in, entry_fits}
+use Rattle.book.proofs.Rules.{places_row}
 use Rattle.book.proofs.checks.places_fit.Goals as goal
 
-pub loop-k-init : goal.loop-k-init
-unfolding every
-loop-k-init c = (search rules, refl)
-
-pub returns-then-not-entry_fits : goal.returns-then-not-entry_fits
-returns-then-not-entry_fits c = places_fail _ _ _ _ _ c.numbers-all.ensures _ c.entry_fits.ensures (search rules) c.if-not-entry_fits.true
-
-pub loop-k-preserved : goal.loop-k-preserved
-loop-k-preserved c = (search rules, places_more _ _ _ _ _ c.numbers-all.ensures _ c.entry_fits.ensures c.loop-k.invariant.1 c.if-not-entry_fits.false)
+pub all-requires-clause-callable : goal.all-requires-clause-callable
+all-requires-clause-callable c = serves_from_places (YieldsList-from_enumerate (YieldsList-from_slice c.args.es (cc)) (cc)) (λ x q r. search rules) (λ x k l e.
+    let g = get_or-enumerate_from 0 c.args.es k (x.0, x.1.now) (omega (arith, length-enumerate_from 0 c.args.es)) in
+    let i : x.0 ≡ 0 + k = ap (λ p. p.0) e ∙ ap (λ p. p.0) g in
+    let b : x.0 ≤ 256 = omega (arith, length-enumerate_from 0 c.args.es) in
+    search rules)
 
 pub returns : goal.returns
-returns c = places_all _ _ _ _ c.loop-k.invariant.1 (search rules) (search rules)
+returns c =
+    let a = c.args in
+    let m = c.map-numbers.ensures.items in
+    let each : (j : ℕ) → j < all_places → get_or c.map-numbers.result j 0 ≡ number_in (get_or a.es j no_entry) = λ j l. let q = m.at j no_entry 0 l in search rules in
+    let copied : c.map-numbers.result ≡ map number_in a.es = filled_all number_in no_entry a.es all_places all_places _ (search rules) (omega arith) record { places = m.long; so_far = each } in
+    let seen = all_from_yields_List (λ p. entry_fits a.given a.latest p.1 (list_any (λ n. eqb n p.1.number) (take p.0 c.map-numbers.result))) _ _ _ c.all.ensures.ran (YieldsList-from_enumerate (YieldsList-from_slice a.es (cc)) (cc)) (λ x b q k. search rules) in
+    seen ∙ places_row a.given a.latest a.es _ copied (search rules)
