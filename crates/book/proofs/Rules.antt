@@ -1,14 +1,9 @@
--- The book's checks, case by case and in the code's own terms: each return of a function cites one law.
-use mathlib.Core.Path.{◌≡◌, refl, ◌∙◌}
-use mathlib.Core.Bool.{Bool, true, ◌&&◌}
-use mathlib.Core.List.{List, [], map}
-use Prim.Native.Nat.{ℕ, zero, suc, ◌-◌, ◌≤◌, ◌<◌}
-use native.Mathlib.Omega.{arith}
-use lib.Dec.{eqb}
-use lib.ListN.{length, get_or, get_or-map, length-map}
-use borrow.Author.Tests.{leb-true, ne_eqb}
+-- The book's checks: the tests that the code makes of its rows are those of the rules; what a check that accepts has shown.
+use Rattle.std.proofs.Common.{◌≡◌, refl, ◌∙◌, Bool, true, ◌&&◌, List, [], map, length, get_or, take, ℕ, zero, suc, ◌-◌, ◌≤◌, ◌<◌, eqb, arith}
 use Rattle.std.specs.List.{list_all, list_any, enumerate_from}
-use Rattle.std.proofs.Common.{take}
+use Rattle.std.proofs.Math.ListN.{get_or-map}
+use Rattle.std.proofs.lemmas.List.{length-map}
+use Rattle.std.proofs.lemmas.Bool.{leb-true, ne_eqb}
 use Rattle.words.specs.declared.Refusal.TheVariants.{HoldRange, BookRule}
 use Rattle.words.specs.Refusal.{unless}
 use Rattle.words.proofs.Order.{unless_is, first_is}

@@ -1,5 +1,5 @@
 -- Each contract leaves one answer: any two that it admits are equal. Stated of the contracts as the check reads them, not of a copy.
-use mathlib.Core.Path.{◌≡◌, sym, ◌∙◌}
+use Rattle.std.proofs.Common.{◌≡◌, sym, ◌∙◌}
 use borrow.Fn.Kinds as K
 use Rattle.words.proofs.Order.{verdict_one, answers_one}
 use Rattle.book.proofs.Book.new.Reads as book-new

@@ -10,8 +10,8 @@ use crate::{Book, Crossing, Entry};
 use words::{Answer, Refusal};
 
 impl Book {
-    #[tactic(auto, unfolding(crate::specs::Calls::is_tail), using(crate::proofs::Rows::at_before))]
     // Whether a break of a head at a tick is a tail of the head's last crossing.
+    #[tactic(auto, unfolding(crate::specs::Calls::is_tail), using(crate::proofs::Rows::at_before))]
     pub fn is_tail(self, head: u8, clock: u32) -> bool
         requires { (1 ≤ head) × (head ≤ max_heads) × (((last_crossing self head).number ≡ 0 → ⊥) → (last_crossing self head).tick ≤ clock) }
         ensures { result ≡ is_tail self head clock }
@@ -20,8 +20,8 @@ impl Book {
         c.number != 0 && clock - c.tick < self.hold as u32
     }
 
-    #[tactic(auto, unfolding(crate::specs::Calls::tailed, crate::specs::Calls::counted, crate::specs::Calls::one_more, crate::specs::Rows::put), using(crate::proofs::Rows::at_before))]
     // The book after such a tail, counted in the entry that holds the crossing, and nowhere if that was released.
+    #[tactic(auto, unfolding(crate::specs::Calls::tailed, crate::specs::Calls::counted, crate::specs::Calls::one_more, crate::specs::Rows::put), using(crate::proofs::Rows::at_before))]
     pub fn tailed(self, head: u8, clock: u32) -> Book
         requires { (1 ≤ head) × (head ≤ max_heads) }
         ensures { result ≡ tailed self head clock }
@@ -42,6 +42,7 @@ impl Book {
     }
 
     // The book with a new entry for a head's crossing at a tick, in the lowest free place; or 18 or 20.
+    #[tactic(auto, unfolding(crate::specs::Calls::entry_refusal, crate::specs::Calls::place_refusal, crate::specs::Calls::number_refusal, crate::specs::Calls::entered, crate::specs::Calls::book_after, crate::specs::Rows::put, words::specs::Refusal::first_refusal, words::specs::Refusal::unless), using(crate::proofs::Rows::put_before))]
     pub fn enter(self, head: u8, tick: u32, clock: u32) -> Answer<Book>
         requires { (1 ≤ head) × (head ≤ max_heads) }
         ensures { Answers result (entry_refusal self) (book_after self (entered self head tick clock) (entry_refusal self)) }
@@ -69,6 +70,7 @@ impl Book {
     }
 
     // Frees the place of an entry, by its number; or 15, 25 or 19.
+    #[tactic(auto, unfolding(crate::specs::Calls::release_refusal, crate::specs::Calls::release_answer, crate::specs::Calls::book_after, crate::specs::Book::book_refusal, words::specs::Refusal::first_refusal), using(words::proofs::Order::number_some))]
     pub fn release(self, number: u32) -> Answer<Book>
         ensures { Answers result (release_refusal self number) (release_answer self number) }
     {
@@ -79,6 +81,7 @@ impl Book {
     }
 
     // The same of a book that is known to fit. Its last number stays the last, whatever is released: no number is given again.
+    #[tactic(auto, unfolding(crate::specs::Calls::held_refusal, crate::specs::Calls::released, crate::specs::Calls::book_after, crate::specs::Rows::put, words::specs::Refusal::unless))]
     fn release_fit(self, number: u32) -> Answer<Book>
         ensures { Answers result (held_refusal self number) (book_after self (released self number) (held_refusal self number)) }
     {

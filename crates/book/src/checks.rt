@@ -36,8 +36,8 @@ impl Book {
 
     pub const LAST_NUMBER: u32 = 4294967295;
 
-    #[tactic(auto, unfolding(crate::specs::Book::hold_refusal, crate::specs::Book::new_or_blank, words::specs::Refusal::unless))]
     // A new book with a hold of so many ticks, or 15 with a blank record.
+    #[tactic(auto, unfolding(crate::specs::Book::hold_refusal, crate::specs::Book::new_or_blank, words::specs::Refusal::unless))]
     pub fn new(hold: u16) -> Answer<Book>
         ensures { Answers result (hold_refusal hold) (new_or_blank hold) }
     {
@@ -48,8 +48,8 @@ impl Book {
         }
     }
 
-    #[tactic(auto, unfolding(crate::specs::Book::book_refusal, crate::specs::Book::hold_refusal, crate::specs::Book::rules_refusal, words::specs::Refusal::first_refusal, words::specs::Refusal::unless))]
     // The hold (15), then the book rules (25).
+    #[tactic(auto, unfolding(crate::specs::Book::book_refusal, crate::specs::Book::hold_refusal, crate::specs::Book::rules_refusal, words::specs::Refusal::first_refusal, words::specs::Refusal::unless))]
     pub fn check(self) -> Verdict
         ensures { verdict_number result ≡ book_refusal self }
     {
@@ -62,8 +62,8 @@ impl Book {
         Ok(())
     }
 
-    #[tactic(auto, unfolding(crate::specs::Book::book_fits), using(crate::proofs::Known::book_places, crate::proofs::Known::book_crossings))]
     // Whether the book rules hold.
+    #[tactic(auto, unfolding(crate::specs::Book::book_fits), using(crate::proofs::Known::book_places, crate::proofs::Known::book_crossings))]
     fn fits(self) -> bool
         ensures { result ≡ book_fits self }
     {
