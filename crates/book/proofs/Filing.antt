@@ -1,12 +1,12 @@
 -- What a new entry and a release are refused for, by the place that the book has for them, and the book that a call answers.
-use Rattle.std.proofs.Common.{◌≡◌, sym, ◌∙◌, ℕ, eqb, not, arith}
+use Rattle.std.proofs.Common.{◌≡◌, sym, ◌∙◌, [], ◌∷◌, ℕ, eqb, not, arith}
 use Rattle.std.proofs.lemmas.Bool.{eq-eqb, ne_eqb}
 use Rattle.words.specs.declared.Refusal.TheVariants.{NoFreePlace, NoSuchEntry}
 use Rattle.words.specs.Refusal.{number_of}
-use Rattle.words.proofs.Order.{unless_not, is_unless, first_some, first_none, first_last}
+use Rattle.words.proofs.Order.{unless_not, is_unless, first_some, first_none, first_last, row_first, row_past}
 use Rattle.book.specs.declared.Book.{Book}
-use Rattle.book.specs.Book.{place_of}
-use Rattle.book.specs.Calls.{place_refusal, number_refusal, entry_refusal, book_after, held_refusal}
+use Rattle.book.specs.Book.{place_of, hold_refusal, rules_refusal, book_refusal}
+use Rattle.book.specs.Calls.{place_refusal, number_refusal, entry_refusal, book_after, held_refusal, release_refusal}
 
 -- ---- new entries
 
@@ -38,6 +38,15 @@ module _ (b : Book) (number : ℕ) where
     pub is_held : (p ≡ 0 → ⊥) → 0 ≡ held_refusal b number
     unfolding held_refusal
     is_held m = sym (is_unless _ NoSuchEntry (rw (ne_eqb _ _ n, ← e, ne_eqb _ _ m)))
+
+  -- the refusals of a book come before a release's own
+  pub release_book : (book_refusal b ≡ 0 → ⊥) → book_refusal b ≡ release_refusal b number
+  unfolding release_refusal book_refusal
+  release_book n = row_first (hold_refusal b.hold) (rules_refusal b) (held_refusal b number ∷ []) n
+
+  pub release_own : book_refusal b ≡ 0 → held_refusal b number ≡ release_refusal b number
+  unfolding release_refusal book_refusal
+  release_own z = sym (first_last (held_refusal b number)) ∙ row_past (hold_refusal b.hold) (rules_refusal b) _ z
 
 -- ---- the book that a refused call answers, and an accepted one
 

@@ -32,11 +32,7 @@ impl Book {
             ..self
         };
         if let Some(p) = find(&self.places, c.number) {
-            let e = self.places[p];
-            b.places[p] = Entry {
-                tails: e.tails.saturating_add(1),
-                ..e
-            };
+            b.places[p].tails = b.places[p].tails.saturating_add(1);
         }
         b
     }
@@ -70,7 +66,7 @@ impl Book {
     }
 
     // Frees the place of an entry, by its number; or 15, 25 or 19.
-    #[tactic(auto, unfolding(crate::specs::Calls::release_refusal, crate::specs::Calls::release_answer, crate::specs::Calls::book_after, crate::specs::Book::book_refusal, words::specs::Refusal::first_refusal), using(words::proofs::Order::number_some))]
+    #[tactic(auto, unfolding(crate::specs::Calls::release_answer, crate::specs::Calls::book_after), using(crate::proofs::Filing::release_book, crate::proofs::Filing::release_own, words::proofs::Order::number_some))]
     pub fn release(self, number: u32) -> Answer<Book>
         ensures { Answers result (release_refusal self number) (release_answer self number) }
     {
