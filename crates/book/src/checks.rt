@@ -67,8 +67,52 @@ impl Book {
     fn fits(self) -> bool
         ensures { result ≡ book_fits self }
     {
-        places_fit(self.given, self.latest, self.places)
-            && crossings_fit(self.given, self.latest, self.remembered)
+        self.places_fit() && self.crossings_fit()
+    }
+
+    fn places_fit(&self) -> bool
+        ensures { result ≡ places_fit self.now.given self.now.latest self.now.places }
+    {
+        // the numbers side by side, so that one can be looked for among the others at speed
+        let numbers = self.places.map(|e| e.number);
+        self.places
+            .iter()
+            .enumerate()
+            .all(|(k, &e)| self.entry_fits(e, &numbers, k))
+    }
+
+    // An entry with so many places below it, whose numbers stand first in the row.
+    #[tactic(auto, unfolding(crate::specs::Book::entry_fits, crate::specs::Book::is_zero))]
+    fn entry_fits(&self, e: Entry, numbers: &[u32], k: usize) -> bool
+        requires { k ≤ length numbers.now }
+        ensures { result ≡ entry_fits self.now.given self.now.latest e (list_any (λ a. eqb a e.number) (take k numbers.now)) }
+    {
+        if e.number == 0 {
+            e == Entry::FREE
+        } else {
+            self.knows(e.number, e.tick) && !stands(&numbers[..k], e.number)
+        }
+    }
+
+    fn crossings_fit(&self) -> bool
+        ensures { result ≡ crossings_fit self.now.given self.now.latest self.now.remembered }
+    {
+        self.remembered.iter().all(|&c| self.crossing_fits(c))
+    }
+
+    #[tactic(auto, unfolding(crate::specs::Book::crossing_fits))]
+    fn crossing_fits(&self, c: Crossing) -> bool
+        ensures { result ≡ crossing_fits self.now.given self.now.latest c }
+    {
+        c.number == 0 || self.knows(c.number, c.tick)
+    }
+
+    // Whether a crossing's number is one that was given, and its tick not later than the last break.
+    #[tactic(auto, unfolding(crate::specs::Book::known))]
+    fn knows(&self, number: u32, tick: u32) -> bool
+        ensures { result ≡ known self.now.given self.now.latest number tick }
+    {
+        1 <= number && number <= self.given && tick <= self.latest
     }
 }
 
@@ -88,48 +132,4 @@ fn empty(hold: u16) -> Book
         remembered: [Crossing::NONE; State::MAX_HEADS],
         places: [Entry::FREE; Book::PLACES],
     }
-}
-
-fn places_fit(given: u32, latest: u32, es: [Entry; Book::PLACES]) -> bool
-    ensures { result ≡ places_fit given latest es }
-{
-    // the numbers side by side, so that one can be looked for among the others at speed
-    let numbers = es.map(|e| e.number);
-    es.iter()
-        .enumerate()
-        .all(|(k, &e)| entry_fits(given, latest, e, &numbers, k))
-}
-
-// An entry with so many places below it, whose numbers stand first in the row.
-#[tactic(auto, unfolding(crate::specs::Book::entry_fits, crate::specs::Book::is_zero))]
-fn entry_fits(given: u32, latest: u32, e: Entry, numbers: &[u32], k: usize) -> bool
-    requires { k ≤ length numbers.now }
-    ensures { result ≡ entry_fits given latest e (list_any (λ a. eqb a e.number) (take k numbers.now)) }
-{
-    if e.number == 0 {
-        e == Entry::FREE
-    } else {
-        known(given, latest, e.number, e.tick) && !stands(&numbers[..k], e.number)
-    }
-}
-
-// A crossing's number is one that was given, and its tick not later than the last break.
-#[tactic(auto, unfolding(crate::specs::Book::known))]
-fn known(given: u32, latest: u32, number: u32, tick: u32) -> bool
-    ensures { result ≡ known given latest number tick }
-{
-    1 <= number && number <= given && tick <= latest
-}
-
-fn crossings_fit(given: u32, latest: u32, cs: [Crossing; State::MAX_HEADS]) -> bool
-    ensures { result ≡ crossings_fit given latest cs }
-{
-    cs.iter().all(|&c| crossing_fits(given, latest, c))
-}
-
-#[tactic(auto, unfolding(crate::specs::Book::crossing_fits))]
-fn crossing_fits(given: u32, latest: u32, c: Crossing) -> bool
-    ensures { result ≡ crossing_fits given latest c }
-{
-    c.number == 0 || known(given, latest, c.number, c.tick)
 }
