@@ -1,11 +1,11 @@
 // A book's limits, the new book, and whether a book meets the book rules.
-ghost use Rattle.std.specs.Prelude.{◌≡◌, ◌≤◌, eqb, length, take};
+ghost use Rattle.std.specs.Prelude.{◌≡◌, ◌≤◌, eqb, length, map, take};
 ghost use Rattle.std.specs.List.{list_any};
 ghost use Rattle.words.specs.Refusal.{verdict_number};
 ghost use Rattle.words.specs.Answer.{Answers};
 ghost use Rattle.rules.specs.Each.{between};
 ghost use Rattle.book.specs.Limits.{longest_hold};
-ghost use Rattle.book.specs.Book.{empty_book, hold_refusal, new_or_blank, known, entry_fits, places_fit, crossing_fits, crossings_fit, book_fits, book_refusal};
+ghost use Rattle.book.specs.Book.{empty_book, hold_refusal, new_or_blank, known, number_in, entry_fits, places_fit, crossing_fits, crossings_fit, book_fits, book_refusal};
 
 use crate::places::stands;
 use crate::{Book, Crossing, Entry};
@@ -73,12 +73,22 @@ impl Book {
     fn places_fit(&self) -> bool
         ensures { result ≡ places_fit self.now.given self.now.latest self.now.places }
     {
-        // the numbers side by side, so that one can be looked for among the others at speed
-        let numbers = self.places.map(|e| e.number);
+        let numbers = self.numbers();
         self.places
             .iter()
             .enumerate()
             .all(|(k, &e)| self.entry_fits(e, &numbers, k))
+    }
+
+    // The numbers of the places, side by side, so that one can be looked for among the others at speed.
+    fn numbers(&self) -> [u32; Book::PLACES]
+        ensures { result ≡ map number_in self.now.places }
+    {
+        let mut numbers = [0; Book::PLACES];
+        for k in 0..Book::PLACES {
+            numbers[k] = self.places[k].number;
+        }
+        numbers
     }
 
     // An entry with so many places below it, whose numbers stand first in the row.

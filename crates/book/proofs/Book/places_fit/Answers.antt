@@ -1,13 +1,11 @@
-use Rattle.std.proofs.Common.{◌∙◌, ◌≡◌, ℕ, ◌<◌, ◌≤◌, ◌+◌, eqb, get_or, take, map, ap, rules, arith}
+use Rattle.std.proofs.Common.{◌∙◌, ◌≡◌, ◌≤◌, ◌+◌, eqb, take, ap, rules, arith}
 use Rattle.std.specs.List.{list_any}
 use Rattle.std.proofs.lemmas.Iterator.{YieldsList-from_slice}
 use Rattle.std.proofs.lemmas.Iterator.Adapters.{serves_from_places}
 use Rattle.std.proofs.lemmas.Iterator.Consumers.{YieldsList-from_enumerate}
 use Rattle.std.proofs.lemmas.Iterator.Search.{all_from_yields_List}
 use Rattle.std.proofs.lemmas.List.FromFn.{length-enumerate_from, get_or-enumerate_from}
-use Rattle.rules.proofs.Filled.{filled_all}
-use Rattle.book.specs.Limits.{all_places}
-use Rattle.book.specs.Book.{no_entry, number_in, entry_fits}
+use Rattle.book.specs.Book.{entry_fits}
 use Rattle.book.proofs.Rules.{places_row}
 use Rattle.book.proofs.Book.places_fit.Goals as goal
 
@@ -21,8 +19,5 @@ all-requires-clause-callable c = serves_from_places (YieldsList-from_enumerate (
 pub returns : goal.returns
 returns c =
     let b = c.args.self.now in
-    let m = c.map-numbers.ensures.items in
-    let each : (j : ℕ) → j < all_places → get_or c.map-numbers.result j 0 ≡ number_in (get_or b.places j no_entry) = λ j l. let q = m.at j no_entry 0 l in search rules in
-    let copied : c.map-numbers.result ≡ map number_in b.places = filled_all number_in no_entry b.places all_places all_places _ (search rules) (omega arith) record { places = m.long; so_far = each } in
-    let seen = all_from_yields_List (λ p. entry_fits b.given b.latest p.1 (list_any (λ n. eqb n p.1.number) (take p.0 c.map-numbers.result))) _ _ _ c.all.ensures.ran (YieldsList-from_enumerate (YieldsList-from_slice b.places (cc)) (cc)) (λ x r q k. search rules) in
-    seen ∙ places_row b.given b.latest b.places _ copied (search rules)
+    let seen = all_from_yields_List (λ p. entry_fits b.given b.latest p.1 (list_any (λ n. eqb n p.1.number) (take p.0 c.numbers-numbers.result))) _ _ _ c.all.ensures.ran (YieldsList-from_enumerate (YieldsList-from_slice b.places (cc)) (cc)) (λ x r q k. search rules) in
+    seen ∙ places_row b.given b.latest b.places _ c.numbers-numbers.ensures (search rules)
