@@ -81,7 +81,7 @@ pub refused_some : {A : Type 0} → (v : Result A Refusal) (n : ℕ) (x : Refusa
 refused_some v n x e a z = let q : number_of x ≡ 0 = sym (ap verdict_number a) ∙ e ∙ z in omega (arith, number_some x)
 
 -- an answer is known by its number and its record
-refused_one : {A : Type 0} → (r q : Refused A) → r.why ≡ q.why → r.back ≡ q.back → r ≡ q
+pub refused_one : {A : Type 0} → (r q : Refused A) → r.why ≡ q.why → r.back ≡ q.back → r ≡ q
 refused_one r q e f = ap (λ w. record { why = w; back = r.back }) e ∙ ap (λ b. record { why = q.why; back = b }) f
 
 pub answer_one : {A : Type 0} → (r q : Result A (Refused A)) → answer_number r ≡ answer_number q → answer_record r ≡ answer_record q → r ≡ q
