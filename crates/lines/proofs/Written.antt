@@ -5,6 +5,10 @@ use Prim.Native.Nat.{ℕ, ◌+◌, ◌-◌, ◌≤◌, ◌<◌}
 use native.Mathlib.Omega.{arith}
 use lib.ListN.{length, set, length-append}
 use borrow.Author.Tests.{le-leb, lt-leb}
+use borrow.Rule.Slice.PartMut.{put_mid}
+use mathlib.Core.Logic.{inl, inr}
+use Rattle.std.specs.Prelude.{Option, None, Some}
+use Rattle.rules.proofs.Each.{less_or_not}
 use Rattle.words.specs.declared.Step.{Step}
 use Rattle.words.specs.Pair.{head_number}
 use Rattle.rules.specs.declared.Head.{Head}
@@ -12,23 +16,31 @@ use Rattle.rules.specs.declared.State.{State}
 use Rattle.rules.specs.State.{phase_number, slot_number, head_of}
 use Rattle.lines.specs.Decimal.{decimal}
 use Rattle.lines.specs.Line.{space, lf, line_of, letter_of, row_line, step_line, end_line}
-use Rattle.lines.specs.Room.{over, wrote, room_after}
-use Rattle.lines.proofs.Over.{two_over, four_over, length_over, over_next}
+use Rattle.lines.specs.Room.{over, wrote, written, bytes_put, room_after}
+use Rattle.lines.proofs.Over.{two_over, part_over, length_over, over_next}
 
--- ---- room for none of the line, and for all of it
+-- ---- what a writer of the line v promises: an answer r, and the room m
+
+abbrev pub Puts : List ℕ → ℕ → List ℕ → Option ℕ → List ℕ → Type 0
+Puts l at v r m = (r ≡ written (length l) at v) × (m ≡ room_after l at v)
+
+-- the answer counts the bytes that are put
+pub counts : (size at : ℕ) (v : List ℕ) → bytes_put (written size at v) ≡ wrote size at v
+unfolding written wrote
+counts size at v = elim (less_or_not size (at + length v)) [
+  | inl h ↦ rw (lt-leb _ _ h)
+  | inr h ↦ rw (le-leb _ _ h)
+]
 
 module _ (l : List ℕ) (at : ℕ) (v : List ℕ) where
-  pub none_put : length l < at + length v → (0 ≡ wrote (length l) at v) × (l ≡ room_after l at v)
-  unfolding wrote room_after
+  -- room for none of the line, and for all of it
+  pub none_put : length l < at + length v → Puts l at v None l
+  unfolding written room_after
   none_put h = rw (lt-leb _ _ h) (refl, refl)
 
-  all_wrote : at + length v ≤ length l → (r : ℕ) → r ≡ length v → r ≡ wrote (length l) at v
-  unfolding wrote
-  all_wrote h r e = rw (le-leb _ _ h) e
-
-  all_room : at + length v ≤ length l → (m : List ℕ) → m ≡ over l at v → m ≡ room_after l at v
-  unfolding room_after
-  all_room h m e = rw (le-leb _ _ h) e
+  all_put : at + length v ≤ length l → (r : ℕ) → r ≡ length v → (m : List ℕ) → m ≡ over l at v → Puts l at v (Some r) m
+  unfolding written room_after
+  all_put h r e m f = rw (le-leb _ _ h) (ap Some e, f)
 
 -- ---- piece after piece
 
@@ -51,11 +63,8 @@ module _ (l : List ℕ) (at : ℕ) where
   put_long {a} w h = ap length w.room ∙ length_over l at a (omega (arith, w.past))
 
   -- the whole of a line
-  put_all : {a m : List ℕ} {p : ℕ} → Put l at a m p → (v : List ℕ) → a ≡ v → at + length v ≤ length l → (p - at ≡ wrote (length l) at v) × (m ≡ room_after l at v)
-  put_all {a} {m} {p} w v e h = (
-    all_wrote l at v h (p - at) (omega (arith, w.past, ap length e)),
-    all_room l at v h m (w.room ∙ ap (over l at) e),
-  )
+  put_all : {a m : List ℕ} {p : ℕ} → Put l at a m p → (v : List ℕ) → a ≡ v → at + length v ≤ length l → Puts l at v (Some (p - at)) m
+  put_all {a} {m} {p} w v e h = all_put l at v h (p - at) (omega (arith, w.past, ap length e)) m (w.room ∙ ap (over l at) e)
 
   -- a number and the byte after it
   put_number : {a m : List ℕ} {p : ℕ} → Put l at a m p → (n after : ℕ) (e : List ℕ) (q : ℕ) → p + length (decimal n) + 1 ≤ length l → q ≡ p + length (decimal n) + 1
@@ -93,7 +102,7 @@ pub row_written : (l : List ℕ) (at clock letter i phase slot timeout : ℕ) �
     → (m₃ : List ℕ) (p₃ : ℕ) → Number m₂ p₂ phase space p₃ m₃
     → (m₄ : List ℕ) (p₄ : ℕ) → Number m₃ p₃ slot space p₄ m₄
     → (m₅ : List ℕ) (p₅ : ℕ) → Number m₄ p₄ timeout lf p₅ m₅
-    → (p₅ - at ≡ wrote (length l) at (row_line clock letter i phase slot timeout)) × (m₅ ≡ room_after l at (row_line clock letter i phase slot timeout))
+    → Puts l at (row_line clock letter i phase slot timeout) (Some (p₅ - at)) m₅
 row_written l at clock letter i phase slot timeout h m₁ p₁ n₁ m₂ p₂ n₂ m₃ p₃ n₃ m₄ p₄ n₄ m₅ p₅ n₅ =
     let k = row_long clock letter i phase slot timeout in
     let w₁ : Put l at (decimal clock ++ (space ∷ [])) m₁ p₁ = record { room = n₁.1; past = omega (arith, n₁.0, number_long clock space) } in
@@ -106,23 +115,20 @@ row_written l at clock letter i phase slot timeout h m₁ p₁ n₁ m₂ p₂ n�
     put_all l at w₅ (row_line clock letter i phase slot timeout) (row_pieces clock letter i phase slot timeout) h
 
 pub end_written : (l : List ℕ) (at accepted refusal : ℕ) → at + length (end_line accepted refusal) ≤ length l
-    → (m₁ : List ℕ) (p₁ : ℕ) → Number (set (set (set (set l at 69) (at + 1) 78) (at + 2) 68) (at + 3) space) (at + 4) accepted space p₁ m₁
+    → (word : List ℕ) → word ≡ 69 ∷ 78 ∷ 68 ∷ space ∷ []
+    → (m₁ : List ℕ) (p₁ : ℕ) → Number (put_mid at (at + 4 - at) l word) (at + 4) accepted space p₁ m₁
     → (m₂ : List ℕ) (p₂ : ℕ) → Number m₁ p₁ refusal lf p₂ m₂
-    → (p₂ - at ≡ wrote (length l) at (end_line accepted refusal)) × (m₂ ≡ room_after l at (end_line accepted refusal))
-end_written l at accepted refusal h m₁ p₁ n₁ m₂ p₂ n₂ =
+    → Puts l at (end_line accepted refusal) (Some (p₂ - at)) m₂
+end_written l at accepted refusal h word e m₁ p₁ n₁ m₂ p₂ n₂ =
     let k = end_long accepted refusal in
-    let m = set (set (set (set l at 69) (at + 1) 78) (at + 2) 68) (at + 3) space in
-    let w : Put l at (69 ∷ 78 ∷ 68 ∷ space ∷ []) m (at + 4) = record { room = four_over l at 69 78 68 space (omega arith); past = refl } in
+    let m = put_mid at (at + 4 - at) l word in
+    let w : Put l at (69 ∷ 78 ∷ 68 ∷ space ∷ []) m (at + 4) = record { room = rw e (part_over l at (69 ∷ 78 ∷ 68 ∷ space ∷ []) (at + 4 - at) (omega arith)); past = refl } in
     let w₁ = put_number l at w accepted space m₁ p₁ (omega arith) n₁.0 n₁.1 in
     let w₂ = put_number l at w₁ refusal lf m₂ p₂ (omega arith) n₂.0 n₂.1 in
     put_all l at w₂ (end_line accepted refusal) (end_pieces accepted refusal) h
 
 -- a step's line, by the numbers that the code takes out of the state and the step
-pub step_written : (l : List ℕ) (at : ℕ) (s : State) (x : Step) (i letter phase slot : ℕ) (h : Head) → i ≡ head_number x → h ≡ head_of s.heads i → letter ≡ letter_of x
-    → phase ≡ phase_number h.phase → slot ≡ slot_number h.phase → (r : ℕ) (m : List ℕ)
-    → (r ≡ wrote (length l) at (row_line s.clock letter i phase slot h.timeout)) × (m ≡ room_after l at (row_line s.clock letter i phase slot h.timeout))
-    → (r ≡ wrote (length l) at (step_line s x)) × (m ≡ room_after l at (step_line s x))
+pub step_is : (s : State) (x : Step) (i letter phase slot : ℕ) (h : Head) → i ≡ head_number x → h ≡ head_of s.heads i → letter ≡ letter_of x
+    → phase ≡ phase_number h.phase → slot ≡ slot_number h.phase → row_line s.clock letter i phase slot h.timeout ≡ step_line s x
 unfolding step_line
-step_written l at s x i letter phase slot h e₁ e₂ e₃ e₄ e₅ r m w =
-    let e : row_line s.clock letter i phase slot h.timeout ≡ step_line s x = rw (e₅, e₄, e₃, e₂, e₁) in
-    (w.0 ∙ ap (wrote (length l) at) e, w.1 ∙ ap (room_after l at) e)
+step_is s x i letter phase slot h e₁ e₂ e₃ e₄ e₅ = rw (e₅, e₄, e₃, e₂, e₁)

@@ -1,10 +1,24 @@
-use Rattle.lines.proofs.Written.{step_written}
+use mathlib.Core.Path.{refl}
+use native.Mathlib.Omega.{arith}
+use Rattle.lines.specs.Line.{letter_of}
+use Rattle.lines.proofs.Written.{none_put, row_long, row_written, step_is}
 use Rattle.lines.proofs.put_step.Goals as goal
 
-pub shape_of-room : goal.shape_of-room
-shape_of-room c = c.put_row.auto.room
+pub returns-then-saturating_sub-need : goal.returns-then-saturating_sub-need
+returns-then-saturating_sub-need c =
+    let a = c.args in
+    let e = step_is a.s a.x _ _ _ _ _ c.head-head.ensures c.head_at-h.ensures refl c.number-phase.ensures c.slot-slot.ensures in
+    rw (← e) (none_put a.room.now _ _ (omega (arith, row_long a.s.clock (letter_of a.x) c.head-head.result c.number-phase.result c.slot-slot.result c.head_at-h.result.timeout)))
 
 pub returns : goal.returns
 returns c =
     let a = c.args in
-    step_written a.room.now a.at a.s a.x _ _ _ _ _ c.head-i.ensures c.head_at-h.ensures c.letter.ensures c.number.ensures c.slot.ensures _ _ c.put_row.ensures
+    let h = c.head_at-h.result in
+    let e = step_is a.s a.x _ _ _ _ _ c.head-head.ensures c.head_at-h.ensures c.letter.ensures c.number-phase.ensures c.slot-slot.ensures in
+    rw (← e) (row_written a.room.now a.at a.s.clock c.letter.result c.head-head.result c.number-phase.result c.slot-slot.result h.timeout
+    (omega (arith, row_long a.s.clock c.letter.result c.head-head.result c.number-phase.result c.slot-slot.result h.timeout))
+    _ _ c.put_number-p.ensures
+    _ _ c.put_number-q.ensures
+    _ _ c.put_number-r.ensures
+    _ _ c.put_number-u.ensures
+    _ _ c.put_number-w.ensures)
