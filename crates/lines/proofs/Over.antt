@@ -3,31 +3,22 @@ use mathlib.Core.Path.{◌≡◌, sym, ap, ◌∙◌}
 use mathlib.Core.List.{List, [], ◌∷◌, ◌++◌, append_assoc, append-nil}
 use Prim.Native.Nat.{ℕ, suc, ◌+◌, ◌-◌, ◌/◌, ◌≤◌, ◌<◌}
 use native.Mathlib.Omega.{arith}
-use lib.ListN.{length, set, take, drop, take-append-drop, length-append, length-drop, length-set}
-use lib.Seq.{sets, sets-eq, take_at, drop-append-add, drop-drop, length-take-le, take-set-le, drop-set-lt, drop-cons, get_or-set_same}
+use lib.ListN.{length, set, take, drop, take-append-drop, length-append, length-set}
+use lib.Seq.{take_at, drop-append-add, drop-drop, length-take-le, take-set-le, drop-set-lt, drop-cons, get_or-set_same}
 use Rattle.lines.specs.Decimal.{digit, decimal}
 use Rattle.lines.specs.Room.{over}
 use borrow.Rule.Slice.PartMut.{put_mid}
 use Rattle.lines.proofs.Numbers.{last_digits, last_long, last_all}
 
--- stores one after the other, as they stand in the code
-pub sets_over : (l : List ℕ) (k : ℕ) (v : List ℕ) → k + length v ≤ length l → sets l k v ≡ over l k v
+-- no bytes
+pub over_none : (l : List ℕ) (k : ℕ) → over l k [] ≡ l
 unfolding over
-sets_over l k v h = sets-eq v l k h
-
-pub two_over : (l : List ℕ) (k a b : ℕ) → k + 2 ≤ length l → set (set l k a) (k + 1) b ≡ over l k (a ∷ b ∷ [])
-two_over l k a b h = let e : k + 1 ≡ suc k = omega arith in rw e (sets_over l k (a ∷ b ∷ []) h)
+over_none l k = let e : k + 0 ≡ k = omega arith in rw (e, append-nil (take k l)) (take-append-drop k l)
 
 -- a part of the room written as one
 pub part_over : (l : List ℕ) (k : ℕ) (v : List ℕ) (n : ℕ) → n ≡ length v → put_mid k n l v ≡ over l k v
 unfolding over
 part_over l k v n e = rw e (ap (λ (r : List ℕ). take k l ++ (v ++ r)) (drop-drop (length v) k l) ∙ sym (append_assoc (take k l) v (drop (k + length v) l)))
-
-pub length_over : (l : List ℕ) (k : ℕ) (v : List ℕ) → k + length v ≤ length l → length (over l k v) ≡ length l
-unfolding over
-length_over l k v h =
-    let t : length (take k l) ≡ k = length-take-le k l (omega arith) in
-    simp (length-append, length-drop, t) (omega arith)
 
 -- bytes, and more bytes right after them
 pub over_next : (l : List ℕ) (k : ℕ) (a b : List ℕ) (j : ℕ) → j ≡ k + length a → j + length b ≤ length l → over (over l k a) j b ≡ over l k (a ++ b)
@@ -54,10 +45,6 @@ over_before l k a d j e h =
     rw (x, y, q) (simp append_assoc)
 
 -- ---- a number's digits, put from the last to the first
-
-pub over_none : (l : List ℕ) (k : ℕ) → over l k [] ≡ l
-unfolding over
-over_none l k = let e : k + 0 ≡ k = omega arith in rw (e, append-nil (take k l)) (take-append-drop k l)
 
 pub digit_back : (l : List ℕ) (at i n : ℕ) → at < i → i ≤ length l → over (set l (i - 1) (digit n)) at (last_digits (i - 1 - at) (n / 10)) ≡ over l at (last_digits (i - at) n)
 unfolding last_digits

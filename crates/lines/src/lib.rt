@@ -30,14 +30,14 @@ pub fn put_step(room: &mut [u8], at: usize, s: State, x: Step) -> Option<usize>
     if room.len().saturating_sub(at) < need {
         return None;
     }
-    let p = put_number(room, at, s.clock, SPACE);
-    room[p] = letter(x);
-    room[p + 1] = SPACE;
-    let q = put_number(room, p + 2, i, SPACE);
-    let r = put_number(room, q, phase, SPACE);
-    let u = put_number(room, r, slot, SPACE);
-    let w = put_number(room, u, h.timeout, LF);
-    Some(w - at)
+    let mut pen = Pen { room, at };
+    pen.number(s.clock, SPACE);
+    pen.text(&[letter(x), SPACE]);
+    pen.number(i, SPACE);
+    pen.number(phase, SPACE);
+    pen.number(slot, SPACE);
+    pen.number(h.timeout, LF);
+    Some(need)
 }
 
 // The last line, put and answered in the same way.
@@ -49,37 +49,62 @@ pub fn put_end(room: &mut [u8], at: usize, accepted: u32, refusal: u8) -> Option
     if room.len().saturating_sub(at) < need {
         return None;
     }
-    room[at..at + 4].copy_from_slice(b"END ");
-    let p = put_number(room, at + 4, accepted, SPACE);
-    let q = put_number(room, p, number, LF);
-    Some(q - at)
+    let mut pen = Pen { room, at };
+    pen.text(b"END ");
+    pen.number(accepted, SPACE);
+    pen.number(number, LF);
+    Some(need)
 }
 
-// A number in decimal and one byte after it; answers the position past them.
-fn put_number(room: &mut [u8], at: usize, n: u32, after: u8) -> usize
-    requires { at + length (decimal n) < length room.old }
-    ensures { (result ≡ at + length (decimal n) + 1) × (room.new ≡ over room.old at (decimal n ++ (after ∷ []))) }
-{
-    let end = at + width(n);
-    room[end] = after;
-    let mut rest = n;
-    for k in (at..end).rev() {
-        room[k] = (rest % 10) as u8 + b'0';
-        rest /= 10;
+// Room that is being written, and where its next byte goes.
+#[derive(Drop)]
+struct Pen<'a> {
+    room: &'a mut [u8],
+    at: usize,
+}
+
+impl Pen<'_> {
+    fn text(&mut self, bytes: &[u8])
+        requires { self.old.at + length bytes.now ≤ length self.old.room.now }
+        ensures at { self.new.at ≡ self.old.at + length bytes.now }
+        ensures same_reference { self.new.room.ghost_name ≡ self.old.room.ghost_name }
+        ensures size { length self.new.room.now ≡ length self.old.room.now }
+        ensures room { self.new.room.now ≡ over self.old.room.now self.old.at bytes.now }
+    {
+        let end = self.at + bytes.len();
+        self.room[self.at..end].copy_from_slice(bytes);
+        self.at = end;
     }
-    end + 1
+
+    // A number in decimal and one byte after it.
+    fn number(&mut self, n: u32, after: u8)
+        requires { self.old.at + length (decimal n) < length self.old.room.now }
+        ensures at { self.new.at ≡ self.old.at + length (decimal n) + 1 }
+        ensures same_reference { self.new.room.ghost_name ≡ self.old.room.ghost_name }
+        ensures size { length self.new.room.now ≡ length self.old.room.now }
+        ensures room { self.new.room.now ≡ over self.old.room.now self.old.at (decimal n ++ (after ∷ [])) }
+    {
+        let end = self.at + width(n);
+        self.room[end] = after;
+        let mut rest = n;
+        for k in (self.at..end).rev() {
+            self.room[k] = (rest % 10) as u8 + b'0';
+            rest /= 10;
+        }
+        self.at = end + 1;
+    }
 }
 
-#[tactic(auto, using(crate::proofs::Numbers::power_long))]
 // How many digits n has, ten at most.
+#[tactic(auto, using(crate::proofs::Numbers::width_is))]
 fn width(n: u32) -> usize
     ensures { (result ≡ length (decimal n)) × (result ≤ 10) }
 {
     n.checked_ilog10().unwrap_or(0) as usize + 1
 }
 
-#[tactic(auto, unfolding(rules::specs::State::head_of), using(rules::proofs::Checks::head_at))]
 // The head place of a number, or a place that is zero where there is none.
+#[tactic(auto, unfolding(rules::specs::State::head_of), using(rules::proofs::Checks::head_at))]
 fn head_at(s: State, i: u8) -> Head
     ensures { result ≡ head_of s.heads i }
 {

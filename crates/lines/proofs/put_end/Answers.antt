@@ -1,5 +1,6 @@
 use native.Mathlib.Omega.{arith}
 use Rattle.lines.proofs.Written.{none_put, end_long, end_written}
+use borrow.Author.Rules.{rules}
 use Rattle.lines.proofs.put_end.Goals as goal
 
 pub returns-then-saturating_sub-need : goal.returns-then-saturating_sub-need
@@ -8,7 +9,9 @@ returns-then-saturating_sub-need c = let a = c.args in none_put a.room.now _ _ (
 pub returns : goal.returns
 returns c =
     let a = c.args in
-    end_written a.room.now a.at a.accepted a.refusal (omega (arith, end_long a.accepted a.refusal))
-    _ c.copy_from_slice.ensures.after
-    _ _ c.put_number-p.ensures
-    _ _ c.put_number-q.ensures
+    let k = end_long a.accepted a.refusal in
+    end_written a.room.now a.at a.accepted a.refusal (omega (arith, k)) _ (omega (arith, k))
+    _ _ (c.text.ensures.at, c.text.ensures.room)
+    _ _ (c.number.ensures.at, c.number.ensures.room)
+    _ _ (c.number-2.ensures.at, c.number-2.ensures.room)
+    _ (search rules)
