@@ -2,31 +2,27 @@
 // rules come first, then steps attempts the step; nothing is decided here. It uses words, rules and steps.
 #![tactic(auto)]
 
-ghost use Rattle.std.specs.Prelude.{◌≡◌};
-ghost use Rattle.words.specs.Refusal.{verdict_number};
+ghost use Rattle.words.specs.Answer.{Answers};
 ghost use Rattle.words.specs.Pair.{step_of};
 ghost use Rattle.rules.specs.Judge.{refusal, judged};
 
-use rules::{Judged, State, Table};
-use words::{Step, Verdict};
+use rules::{State, Table};
+use words::{Answer, Step};
 
 // The next state of an accepted step, or the refusal and the state as it was given.
-pub fn step(t: Table, s: State, x: Step) -> Judged
-    ensures { (verdict_number result.verdict ≡ refusal t s x) × (result.state ≡ judged t s x) }
+pub fn step(t: Table, s: State, x: Step) -> Answer<State>
+    ensures { Answers result (refusal t s x) (judged t s x) }
 {
-    let v = s.check(t);
-    let Verdict::Accepted = v else {
-        return Judged {
-            verdict: v,
-            state: s,
-        };
-    };
-    steps::attempt(t, s, x)
+    match s.check(t) {
+        Ok(()) => steps::attempt(t, s, x),
+        Err(why) => Err(why.with(s)),
+    }
 }
 
+#[tactic(auto, using(crate::proofs::Laws::of_pair))]
 // The same of a step in bytes: 0,0 advance; 1,i timer; 2,i hear; any other pair is no step (7).
-pub fn pair(t: Table, s: State, kind: u8, i: u8) -> Judged
-    ensures { (verdict_number result.verdict ≡ refusal t s (step_of kind i)) × (result.state ≡ judged t s (step_of kind i)) }
+pub fn pair(t: Table, s: State, kind: u8, i: u8) -> Answer<State>
+    ensures { Answers result (refusal t s (step_of kind i)) (judged t s (step_of kind i)) }
 {
     step(t, s, Step::read(kind, i))
 }

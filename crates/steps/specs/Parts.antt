@@ -1,6 +1,6 @@
 -- A step on the parts of a state: what each rule of document 01 reads and what it changes, with nothing of the state besides. proofs/Parts shows that together
 -- they are the step.
-use Rattle.std.specs.Prelude.{Bool, true, false, cond, not, List, [], ◌∷◌, map, ℕ, zero, suc, ◌-◌, min, eqb, leb, get_or}
+use Rattle.std.specs.Prelude.{Bool, true, false, cond, not, List, [], ◌∷◌, map, ℕ, zero, suc, ◌-◌, min, eqb, leb, get_or, Option, Some, None}
 use Rattle.words.specs.declared.Step.{Step}
 use Rattle.words.specs.declared.Step.TheVariants.{Advance, Timer, Hear}
 use Rattle.words.specs.declared.Refusal.TheVariants.{NoSuchStep, SomethingDue, TimerNotDue, NotHearing, PastCeiling, OwnFrame}
@@ -13,7 +13,7 @@ use Rattle.rules.specs.declared.Table.{Table}
 use Rattle.rules.specs.Each.{between}
 use Rattle.rules.specs.Limits.{max_heads, ceiling}
 use Rattle.rules.specs.Table.{is_head}
-use Rattle.rules.specs.Calendar.{quiet, left, hear_due}
+use Rattle.rules.specs.Calendar.{quiet, left, send, hear_due}
 use Rattle.rules.specs.Step.{timer_head, timer_frame, sends, hear_head}
 
 -- the place of head i, counted from 0; the first where there is none
@@ -38,6 +38,16 @@ unfoldable pub clock_after : List ℕ → ℕ → ℕ → Calendar → Step → 
 clock_after es n clock c Advance = instant es n c
 clock_after es n clock c (Timer i) = clock
 clock_after es n clock c (Hear i) = clock
+
+-- the kind of a frame, or none where that is 0
+unfoldable pub frame_of : ℕ → Option ℕ
+frame_of zero = None
+frame_of (suc k) = Some (suc k)
+
+-- the calendar after a frame of a kind is sent by i, or as it was where there is none
+unfoldable pub sent : Table → ℕ → Option ℕ → ℕ → Calendar → Calendar
+sent t clock None i c = c
+sent t clock (Some kind) i c = send t clock kind i c
 
 -- the calendar after a step
 unfoldable pub calendar_after : Table → ℕ → Calendar → Head → Step → Calendar

@@ -8,59 +8,58 @@ use rules::{Calendar, State};
 use words::{Refusal, Step, Verdict};
 
 // The least of the first n timeouts.
-fn least(timeouts: &[u32; 64], n: u8) -> u32
+fn least(timeouts: &[u32; State::MAX_HEADS], n: u8) -> u32
     requires { (1 ≤ n) × (n ≤ max_heads) }
     ensures { result ≡ least timeouts.now n }
 {
-    let mut least = timeouts[0];
-    let mut k: u8 = 1;
-    while k < n {
-        let e = timeouts[k as usize];
-        if e < least {
-            least = e;
-        }
-        k += 1;
-    }
-    least
+    timeouts[1..n as usize]
+        .iter()
+        .fold(timeouts[0], |least, &timeout| least.min(timeout))
 }
 
+#[tactic(auto, unfolding(crate::specs::Parts::instant, rules::specs::Calendar::quiet))]
 // The least timeout or, if hearers wait and it is earlier, the delivery tick.
-pub fn instant(timeouts: &[u32; 64], n: u8, c: Calendar) -> u32
+pub fn instant(timeouts: &[u32; State::MAX_HEADS], n: u8, c: Calendar) -> u32
     requires { (1 ≤ n) × (n ≤ max_heads) }
     ensures { result ≡ instant timeouts.now n c }
 {
     let first = least(timeouts, n);
     if c.hearers == 0 {
-        return first;
+        first
+    } else {
+        first.min(c.delivery)
     }
-    if c.delivery < first {
-        return c.delivery;
-    }
-    first
 }
 
+#[tactic(auto, unfolding(crate::specs::Parts::clock_after))]
 // The clock after a step: only an advance moves it.
-pub fn clock_after(timeouts: &[u32; 64], n: u8, clock: u32, c: Calendar, x: Step) -> u32
+pub fn clock_after(
+    timeouts: &[u32; State::MAX_HEADS],
+    n: u8,
+    clock: u32,
+    c: Calendar,
+    x: Step,
+) -> u32
     requires { (1 ≤ n) × (n ≤ max_heads) }
     ensures { result ≡ clock_after timeouts.now n clock c x }
 {
     match x {
         Step::Advance => instant(timeouts, n, c),
-        Step::Timer(_) => clock,
-        Step::Hear(_) => clock,
+        Step::Timer(_) | Step::Hear(_) => clock,
     }
 }
 
+#[tactic(auto, unfolding(crate::specs::Parts::advance_refusal, words::specs::Refusal::first_refusal, words::specs::Refusal::unless))]
 // Whether an advance to the next instant is accepted. In a state that fits, something is due exactly where the next instant is the
 // present one, so one search serves both tests.
 pub fn verdict(clock: u32, next: u32) -> Verdict
     ensures { verdict_number result ≡ advance_refusal clock next }
 {
     if next == clock {
-        return Verdict::Refused(Refusal::SomethingDue);
+        Err(Refusal::SomethingDue)
+    } else if State::CEILING < next {
+        Err(Refusal::PastCeiling)
+    } else {
+        Ok(())
     }
-    if State::CEILING < next {
-        return Verdict::Refused(Refusal::PastCeiling);
-    }
-    Verdict::Accepted
 }

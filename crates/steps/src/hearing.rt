@@ -9,6 +9,7 @@ ghost use Rattle.steps.specs.Ready.{Sender};
 use rules::{Calendar, Head, Phase, Table};
 use words::{Refusal, Verdict};
 
+#[tactic(auto, unfolding(rules::specs::Step::listener_wait))]
 // How long a listener waits that hears a coldstart frame.
 fn listener_wait(t: Table, i: u8) -> u32
     requires { 1 ≤ i }
@@ -17,6 +18,7 @@ fn listener_wait(t: Table, i: u8) -> u32
     t.coldstart_wait(i)
 }
 
+#[tactic(auto, unfolding(rules::specs::Step::joined))]
 // A head that joins: the sender's slot, which began one propagation ago.
 fn joined(t: Table, clock: u32, c: Calendar) -> Head
     requires { (t.p ≤ t.s) × (t.s ≤ longest_slot) × (clock ≤ ceiling) }
@@ -28,59 +30,43 @@ fn joined(t: Table, clock: u32, c: Calendar) -> Head
     }
 }
 
+#[tactic(auto, unfolding(rules::specs::Step::hear_head))]
 // Head i after it has heard the frame, by its phase before.
 pub fn hear_head(t: Table, clock: u32, i: u8, c: Calendar, h: Head) -> Head
     requires { Sender t clock i }
     ensures { result ≡ hear_head t clock i c h h.phase }
 {
-    let p = h.phase;
-    match p {
-        Phase::Init => h,
-        Phase::Listen => {
-            if c.kind == Calendar::COLDSTART_FRAME {
-                return Head {
-                    phase: Phase::Coldstart,
-                    timeout: clock + listener_wait(t, i),
-                };
-            }
-            joined(t, clock, c)
-        }
-        Phase::Coldstart => joined(t, clock, c),
-        Phase::Active(_) => h,
+    match h.phase {
+        Phase::Listen if c.kind == Calendar::COLDSTART_FRAME => Head {
+            phase: Phase::Coldstart,
+            timeout: clock + listener_wait(t, i),
+        },
+        Phase::Listen | Phase::Coldstart => joined(t, clock, c),
+        Phase::Init | Phase::Active(_) => h,
     }
 }
 
+#[tactic(auto, unfolding(crate::specs::Parts::heeds))]
 // Whether a head in a phase heeds a frame that it hears: in any other phase it stays as it is.
 pub fn heeds(p: Phase) -> bool
     ensures { result ≡ heeds p }
 {
-    match p {
-        Phase::Init => false,
-        Phase::Listen => true,
-        Phase::Coldstart => true,
-        Phase::Active(_) => false,
-    }
+    matches!(p, Phase::Listen | Phase::Coldstart)
 }
 
+#[tactic(auto, unfolding(crate::specs::Parts::hear_refusal, words::specs::Refusal::first_refusal, words::specs::Refusal::unless, rules::specs::Calendar::hear_due, rules::specs::Calendar::hears))]
 // Whether head i may hear.
 pub fn verdict(t: Table, clock: u32, c: Calendar, i: u8) -> Verdict
     requires { t.n ≤ max_heads }
     ensures { verdict_number result ≡ hear_refusal t clock c i }
 {
-    if i < 1 {
-        return Verdict::Refused(Refusal::NoSuchStep);
+    if !t.is_head(i) {
+        Err(Refusal::NoSuchStep)
+    } else if !hearers::has(c.hearers, i) || c.delivery != clock {
+        Err(Refusal::NotHearing)
+    } else if i == c.origin {
+        Err(Refusal::OwnFrame)
+    } else {
+        Ok(())
     }
-    if t.n < i {
-        return Verdict::Refused(Refusal::NoSuchStep);
-    }
-    if !hearers::has(c.hearers, i) {
-        return Verdict::Refused(Refusal::NotHearing);
-    }
-    if c.delivery != clock {
-        return Verdict::Refused(Refusal::NotHearing);
-    }
-    if i == c.origin {
-        return Verdict::Refused(Refusal::OwnFrame);
-    }
-    Verdict::Accepted
 }

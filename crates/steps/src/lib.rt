@@ -7,14 +7,15 @@
 ghost use Rattle.std.specs.Prelude.{◌≡◌, true, ◌≤◌};
 ghost use Rattle.rules.specs.Limits.{max_heads};
 ghost use Rattle.words.specs.Refusal.{verdict_number};
+ghost use Rattle.words.specs.Answer.{Answers};
 ghost use Rattle.rules.specs.Table.{table_fits};
 ghost use Rattle.rules.specs.State.{state_fits};
 ghost use Rattle.rules.specs.Judge.{step_refusal, state_after};
 ghost use Rattle.steps.specs.Parts.{part_refusal, calendar_after, head_after};
 ghost use Rattle.steps.specs.Ready.{Ready};
 
-use rules::{Calendar, Head, Judged, State, Table};
-use words::{Step, Verdict};
+use rules::{Calendar, Head, State, Table};
+use words::{Answer, Step, Verdict};
 
 pub mod advancing;
 pub mod hearing;
@@ -26,32 +27,26 @@ pub use advancing::instant;
 pub use places::{place, timeouts};
 
 // A proposed step on a table and a state that fit: the next state, or the refusal (7 to 11, 13) and the state as it was given.
-pub fn attempt(t: Table, s: State, x: Step) -> Judged
+pub fn attempt(t: Table, s: State, x: Step) -> Answer<State>
     requires { (table_fits t ≡ true) × (state_fits t s ≡ true) }
-    ensures { (verdict_number result.verdict ≡ step_refusal t s x) × (result.state ≡ state_after t s x (step_refusal t s x)) }
+    ensures { Answers result (step_refusal t s x) (state_after t s x (step_refusal t s x)) }
 {
     let c = s.calendar;
     let at = place(x.head());
     let h = s.heads[at];
     let all = timeouts(s);
     let later = advancing::clock_after(&all, t.n, s.clock, c, x);
-    let v = verdict(t, s.clock, later, c, h, x);
-    let Verdict::Accepted = v else {
-        return Judged {
-            verdict: v,
-            state: s,
-        };
-    };
+    if let Err(why) = verdict(t, s.clock, later, c, h, x) {
+        return Err(why.with(s));
+    }
     let mut next = s;
     next.clock = later;
     next.calendar = calendar_after(t, s.clock, c, h, x);
     next.heads[at] = head_after(t, s.clock, c, h, x);
-    Judged {
-        verdict: Verdict::Accepted,
-        state: next,
-    }
+    Ok(next)
 }
 
+#[tactic(auto, unfolding(crate::specs::Parts::part_refusal))]
 // Whether a step is accepted, by the clock after it and the head that it names.
 fn verdict(t: Table, clock: u32, later: u32, c: Calendar, h: Head, x: Step) -> Verdict
     requires { t.n ≤ max_heads }
@@ -64,6 +59,7 @@ fn verdict(t: Table, clock: u32, later: u32, c: Calendar, h: Head, x: Step) -> V
     }
 }
 
+#[tactic(auto, unfolding(crate::specs::Parts::calendar_after, crate::specs::Ready::Ready), using(crate::proofs::Laws::sent_frame))]
 // The calendar after a step.
 fn calendar_after(t: Table, clock: u32, c: Calendar, h: Head, x: Step) -> Calendar
     requires { Ready t clock x }
@@ -71,15 +67,12 @@ fn calendar_after(t: Table, clock: u32, c: Calendar, h: Head, x: Step) -> Calend
 {
     match x {
         Step::Advance => c,
-        Step::Timer(i) => {
-            let p = h.phase;
-            let kind = timing::timer_frame(t, i, p);
-            sending::sends(t, clock, kind, i, c)
-        }
+        Step::Timer(i) => sending::sends(t, clock, timing::timer_frame(t, i, h.phase), i, c),
         Step::Hear(i) => sending::left(c, i),
     }
 }
 
+#[tactic(auto, unfolding(crate::specs::Parts::head_after, crate::specs::Ready::Ready))]
 // The head that a step names, after it.
 fn head_after(t: Table, clock: u32, c: Calendar, h: Head, x: Step) -> Head
     requires { Ready t clock x }
@@ -87,10 +80,7 @@ fn head_after(t: Table, clock: u32, c: Calendar, h: Head, x: Step) -> Head
 {
     match x {
         Step::Advance => h,
-        Step::Timer(i) => {
-            let p = h.phase;
-            timing::timer_head(t, clock, i, p)
-        }
+        Step::Timer(i) => timing::timer_head(t, clock, i, h.phase),
         Step::Hear(i) => hearing::hear_head(t, clock, i, c, h),
     }
 }

@@ -2,69 +2,67 @@
 ghost use Rattle.std.specs.Prelude.{◌≡◌, ◌≤◌};
 ghost use Rattle.rules.specs.Limits.{max_heads};
 ghost use Rattle.rules.specs.Calendar.{settled, left, taken, send};
-ghost use Rattle.rules.specs.Step.{sends};
+ghost use Rattle.steps.specs.Parts.{sent};
 ghost use Rattle.steps.specs.Ready.{Sender};
 
 use rules::{Calendar, Table};
 
+#[tactic(auto, unfolding(rules::specs::Calendar::settled, rules::specs::Calendar::quiet))]
 // Nothing of a frame is kept once nobody waits for it.
 fn settled(c: Calendar) -> Calendar
     ensures { result ≡ settled c }
 {
-    if c.hearers == 0 {
-        return Calendar::empty();
-    }
-    c
+    if c.hearers == 0 { Calendar::empty() } else { c }
 }
 
+#[tactic(auto, unfolding(rules::specs::Calendar::left))]
 // Head i leaves the hearers.
 pub fn left(c: Calendar, i: u8) -> Calendar
     requires { (1 ≤ i) × (i ≤ max_heads) }
     ensures { result ≡ left c i }
 {
-    let rest = hearers::without(c.hearers, i);
     settled(Calendar {
-        hearers: rest,
-        kind: c.kind,
-        origin: c.origin,
-        sent: c.sent,
-        delivery: c.delivery,
+        hearers: hearers::without(c.hearers, i),
+        ..c
     })
 }
 
+#[tactic(auto, unfolding(rules::specs::Calendar::taken))]
 // The calendar takes the frame: all heads but i wait for it.
 fn taken(t: Table, clock: u32, kind: u8, i: u8) -> Calendar
     requires { Sender t clock i }
     ensures { result ≡ taken t clock kind i }
 {
-    let others = hearers::all_but(t.n, i);
     settled(Calendar {
-        hearers: others,
-        kind: kind,
+        hearers: hearers::all_but(t.n, i),
+        kind,
         origin: i,
         sent: clock,
         delivery: clock + t.p as u32,
     })
 }
 
+#[tactic(auto, unfolding(rules::specs::Calendar::send, rules::specs::Calendar::quiet))]
 // Send by i at the clock: dropped where hearers wait, and i no longer hears; otherwise taken.
 pub fn send(t: Table, clock: u32, kind: u8, i: u8, c: Calendar) -> Calendar
     requires { Sender t clock i }
     ensures { result ≡ send t clock kind i c }
 {
     if c.hearers != 0 {
-        return left(c, i);
+        left(c, i)
+    } else {
+        taken(t, clock, kind, i)
     }
-    taken(t, clock, kind, i)
 }
 
-// The calendar after a frame of a kind is sent, or as it was where the kind is 0.
-pub fn sends(t: Table, clock: u32, kind: u8, i: u8, c: Calendar) -> Calendar
+#[tactic(auto, unfolding(crate::specs::Parts::sent))]
+// The calendar after a frame of a kind is sent, or as it was where there is none.
+pub fn sends(t: Table, clock: u32, kind: Option<u8>, i: u8, c: Calendar) -> Calendar
     requires { Sender t clock i }
-    ensures { result ≡ sends t clock kind i c }
+    ensures { result ≡ sent t clock kind i c }
 {
-    if kind == 0 {
-        return c;
+    match kind {
+        Some(kind) => send(t, clock, kind, i, c),
+        None => c,
     }
-    send(t, clock, kind, i, c)
 }

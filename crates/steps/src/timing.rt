@@ -2,22 +2,21 @@
 ghost use Rattle.std.specs.Prelude.{◌≡◌};
 ghost use Rattle.words.specs.Refusal.{verdict_number};
 ghost use Rattle.rules.specs.Step.{slot_after, timer_head, timer_frame};
-ghost use Rattle.steps.specs.Parts.{timer_refusal};
+ghost use Rattle.steps.specs.Parts.{frame_of, timer_refusal};
 ghost use Rattle.steps.specs.Ready.{Sender};
 
 use rules::{Calendar, Head, Phase, Table};
 use words::{Refusal, Verdict};
 
+#[tactic(auto, unfolding(rules::specs::Step::slot_after))]
 // The next slot: N is followed by 1.
 fn slot_after(t: Table, k: u8) -> u8
     ensures { result ≡ slot_after t k }
 {
-    if k < t.n {
-        return k + 1;
-    }
-    1
+    if k < t.n { k + 1 } else { 1 }
 }
 
+#[tactic(auto, unfolding(rules::specs::Step::timer_head))]
 // Head i after its timer, by its phase before.
 pub fn timer_head(t: Table, clock: u32, i: u8, p: Phase) -> Head
     requires { Sender t clock i }
@@ -32,45 +31,35 @@ pub fn timer_head(t: Table, clock: u32, i: u8, p: Phase) -> Head
             phase: Phase::Coldstart,
             timeout: clock + t.coldstart_wait(i),
         },
-        Phase::Active(k) => {
-            let next = slot_after(t, k);
-            Head {
-                phase: Phase::Active(next),
-                timeout: clock + t.s as u32,
-            }
-        }
+        Phase::Active(k) => Head {
+            phase: Phase::Active(slot_after(t, k)),
+            timeout: clock + t.s as u32,
+        },
     }
 }
 
-// The kind of frame that head i's timer sends, 0 for none.
-pub fn timer_frame(t: Table, i: u8, p: Phase) -> u8
-    ensures { result ≡ timer_frame t i p }
+#[tactic(auto, unfolding(rules::specs::Step::timer_frame, crate::specs::Parts::frame_of))]
+// The kind of frame that head i's timer sends, if any.
+pub fn timer_frame(t: Table, i: u8, p: Phase) -> Option<u8>
+    ensures { result ≡ frame_of (timer_frame t i p) }
 {
     match p {
-        Phase::Init => 0,
-        Phase::Listen | Phase::Coldstart => Calendar::COLDSTART_FRAME,
-        Phase::Active(k) => {
-            let next = slot_after(t, k);
-            if next == i {
-                return Calendar::I_FRAME;
-            }
-            0
-        }
+        Phase::Listen | Phase::Coldstart => Some(Calendar::COLDSTART_FRAME),
+        Phase::Active(k) if slot_after(t, k) == i => Some(Calendar::I_FRAME),
+        Phase::Init | Phase::Active(_) => None,
     }
 }
 
+#[tactic(auto, unfolding(crate::specs::Parts::timer_refusal, words::specs::Refusal::first_refusal, words::specs::Refusal::unless))]
 // Whether head i's timer may go off.
 pub fn verdict(t: Table, clock: u32, h: Head, i: u8) -> Verdict
     ensures { verdict_number result ≡ timer_refusal t clock h i }
 {
-    if i < 1 {
-        return Verdict::Refused(Refusal::NoSuchStep);
+    if !t.is_head(i) {
+        Err(Refusal::NoSuchStep)
+    } else if h.timeout != clock {
+        Err(Refusal::TimerNotDue)
+    } else {
+        Ok(())
     }
-    if t.n < i {
-        return Verdict::Refused(Refusal::NoSuchStep);
-    }
-    if h.timeout != clock {
-        return Verdict::Refused(Refusal::TimerNotDue);
-    }
-    Verdict::Accepted
 }
