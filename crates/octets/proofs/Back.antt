@@ -1,14 +1,16 @@
 -- Bytes tell their numbers and numbers their bytes, at every width: for one number, for fields in a row, for the parts of the heads.
-use mathlib.Core.Path.{◌≡◌, refl, sym, ap₂, ◌∙◌}
+use mathlib.Core.Path.{◌≡◌, refl, sym, ap, ap₂, ◌∙◌}
 use mathlib.Core.Bool.{true}
 use mathlib.Core.Logic.{inl, inr}
 use mathlib.Core.List.{List, [], ◌∷◌, ◌++◌, append_assoc, append-nil}
-use Prim.Native.Nat.{ℕ, zero, suc, ◌+◌, ◌*◌, ◌/◌, ◌%◌, ◌^◌, ◌≤◌, ◌<◌}
+use Prim.Native.Nat.{ℕ, zero, suc, ◌+◌, ◌-◌, ◌*◌, ◌/◌, ◌%◌, ◌^◌, ◌≤◌, ◌<◌}
 use native.Mathlib.Nat.{mul-zero, mul-suc}
 use native.Mathlib.Omega.{arith}
 use lib.Dec.{eqb}
-use lib.ListN.{length, get_or, take, drop, replicate, length-append, length-drop, length-replicate, length-set, take-append-drop}
+use lib.ListN.{length, get_or, take, drop, set, replicate, length-append, length-drop, length-replicate, length-set, take-append-drop}
 use lib.Seq.{append_snoc, take-append_seam, drop-append_seam, get_or-append_seam, drop-cons, take_all, take-add, drop-drop, get_or-set_same, get_or-set_other, ext_get_or}
+use Rattle.std.proofs.Common.{below_more, length-take-le}
+use Rattle.std.proofs.lemmas.List.{drop-replicate, get_or_append_left, get_or-append_right}
 use borrow.Author.Tests.{eqb-true, eq-eqb}
 use Rattle.rules.specs.Limits.{max_heads}
 use Rattle.rules.proofs.Each.{same_or_not, less_or_not, and_true, both}
@@ -139,6 +141,30 @@ pub places_are : {A : Type 0} (d : A) (f : ℕ → A) (n : ℕ) (xs : List A) �
 places_are d f n xs l m used spare =
     ext_get_or d (places d f n) xs (places_long d f n ∙ sym l)
     (λ k h. elim (less_or_not k n) [ inl e ↦ places_used d f n k e m ∙ used k e | inr e ↦ places_spare d f n k e ∙ sym (spare k e) ])
+
+-- the first n places while they are read one after the other: the first k hold f's
+pub record Taken {A : Type 0} (d : A) (f : ℕ → A) (n k : ℕ) (part : List A) : Type 0 where
+  pub long : length part ≡ n
+  pub so_far : (j : ℕ) → j < k → get_or part j d ≡ f (suc j)
+
+module _ {A : Type 0} (d : A) (f : ℕ → A) (n : ℕ) (m : n ≤ max_heads) where
+  pub taken_none : Taken d f n 0 (take n (replicate max_heads d))
+  taken_none = record { long = omega (arith, length-take-le n (replicate max_heads d), length-replicate max_heads d); so_far = λ j h. absurd (omega arith) }
+
+  pub taken_more : (k : ℕ) (part : List A) (x : A) → k < n → Taken d f n k part → x ≡ f (suc k) → Taken d f n (k + 1) (set part k x)
+  taken_more k part x h t e = record {
+    long = length-set part k x ∙ t.long;
+    so_far = below_more _ _ (λ j l. get_or-set_other part k j x d (λ q. omega arith) ∙ t.so_far j l) (get_or-set_same part k x d (omega (arith, t.long)) ∙ e);
+  }
+
+  -- behind them are the places that are left as they were
+  pub taken_all : (k : ℕ) (part : List A) → n ≤ k → Taken d f n k part → part ++ drop n (replicate max_heads d) ≡ places d f n
+  taken_all k part h t =
+      let rest = replicate (max_heads - n) d in
+      ap (λ w. part ++ w) (drop-replicate n max_heads d)
+      ∙ sym (places_are d f n (part ++ rest) (omega (arith, t.long, length-append part rest, length-replicate (max_heads - n) d)) m
+      (λ j l. sym (get_or_append_left part rest d j (omega (arith, t.long)) ∙ t.so_far j (omega arith)))
+      (λ j l. get_or-append_right part rest n j d t.long l ∙ zeros d (max_heads - n) (j - n)))
 
 -- a front and the parts behind it are all of the bytes
 pub two_parts : (l a b : List ℕ) (front each n : ℕ) → length l ≡ front + each * n → a ≡ take front l → b ≡ take (each * n) (drop front l) → a ++ b ≡ l

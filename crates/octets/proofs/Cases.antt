@@ -1,20 +1,15 @@
 -- What the readers and the writers of both images have in common, case by case: each return of a function cites one law.
-use mathlib.Core.Path.{◌≡◌, ◌∙◌}
-use mathlib.Core.Bool.{false}
-use mathlib.Core.List.{List}
-use Prim.Native.Nat.{ℕ, ◌≤◌}
-use native.Mathlib.Omega.{arith}
-use lib.Dec.{eqb}
-use lib.ListN.{length}
-use borrow.Author.Tests.{eq-eqb, ne_eqb}
+use Rattle.std.proofs.Common.{◌≡◌, sym, ap, ◌∙◌, ℕ, ◌≤◌, List, length, Result, Ok, Err, MatchResult, ne_eqb, arith}
+use Rattle.std.specs.Result.{IsErrAnd}
 use Rattle.words.specs.declared.Refusal.{Refusal}
+use Rattle.words.specs.declared.answers.Refused.{Refused}
 use Rattle.words.specs.Refusal.{number_of}
+use Rattle.words.specs.Answer.{Answers}
 use Rattle.words.proofs.Order.{number_some}
-use Rattle.octets.specs.Bytes.{number_at}
-use Rattle.rules.specs.Room.{bytes_written, room_after}
-use Rattle.rules.proofs.Rooms.{wrote_image}
+use Rattle.rules.specs.Room.{write_refusal, Wrote}
+use Rattle.rules.proofs.Rooms.{write_fits, wrote_image}
 use Rattle.octets.specs.Room.{stored}
-use Rattle.octets.specs.Fields.{is_marked, or_blank}
+use Rattle.octets.specs.Fields.{or_blank, Reads}
 use Rattle.octets.proofs.Rows.{stored_front}
 
 -- ---- a reader's two answers
@@ -27,23 +22,21 @@ pub or_some : {A : Type 0} (number : ℕ) (x zeros : A) → number ≡ 0 → x �
 unfolding or_blank
 or_some number x zeros e = rw e
 
--- what a reader answers that refuses with x
-pub refuse : {A : Type 0} (n number : ℕ) (r v zeros : A) (x : Refusal) → (n ≡ number_of x) × (r ≡ zeros) → number_of x ≡ number → (n ≡ number) × (r ≡ or_blank number v zeros)
-refuse n number r v zeros x a e = (a.0 ∙ e, a.1 ∙ or_none number v zeros (λ z. omega (arith, number_some x)))
-
--- ---- the mark
-
-pub unmarked : (l : List ℕ) (m x : ℕ) → x ≡ number_at l 0 3 → (x ≡ m → ⊥) → false ≡ is_marked m l
-unfolding is_marked
-unmarked l m x e n = rw (← e, ne_eqb _ _ n)
-
-pub marked_rest : (l : List ℕ) (m x y : ℕ) → x ≡ number_at l 0 3 → x ≡ m → y ≡ number_at l 3 2 → eqb y 1 ≡ is_marked m l
-unfolding is_marked
-marked_rest l m x y e h f = rw (← e, eq-eqb _ _ h, ← f)
+-- a reader that answers x, or refuses; its refusal then takes the zeros along
+pub answered : {A : Type 0} {Q : Refusal → Refused A → Type 0} (r : Result A Refusal) (q : Result A (Refused A)) (number : ℕ) (x zeros : A)
+    → Reads r number x
+    → MatchResult r (λ y. q ≡ Ok y) (λ why. IsErrAnd q (Q why))
+    → ((why : Refusal) (e : Refused A) → Q why e → (e.why ≡ why) × (e.back ≡ zeros))
+    → Answers q number (or_blank number x zeros)
+answered (Ok y) q number x zeros e f g = rw f (sym e.0, e.1 ∙ or_some number x zeros e.0)
+answered (Err why) (Ok y) number x zeros e f g = absurd f
+answered (Err why) (Err z) number x zeros e f g = let w = g why z f in (ap number_of w.0 ∙ e, w.1 ∙ or_none number x zeros (λ z. omega (arith, number_some why)))
 
 -- ---- a writer
 
 -- a writer that has stored its whole image
-pub wrote_all : (number bytes : ℕ) (image room after : List ℕ) → number ≡ 0 → length image ≤ length room → bytes ≡ length image → after ≡ stored room 0 image
-    → (bytes ≡ bytes_written number image) × (after ≡ room_after number image room)
-wrote_all number bytes image room after e h b a = wrote_image number bytes image room after e b (a ∙ stored_front room image h)
+pub wrote_all : (unfit bytes : ℕ) (image room after : List ℕ) → unfit ≡ 0 → length image ≤ length room → bytes ≡ length image → after ≡ stored room 0 image → Wrote (Ok bytes) unfit image room after
+wrote_all unfit bytes image room after z h b a =
+    let e = write_fits unfit image room z h in
+    let w = wrote_image (write_refusal unfit image room) bytes image room after e b (a ∙ stored_front room image h) in
+    (sym e, w.0, w.1)

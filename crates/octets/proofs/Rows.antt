@@ -24,7 +24,7 @@ unfolding stored
 stored_append l k [] b = rw add-zero
 stored_append l k (x ∷ a) b = let e : suc k + length a ≡ k + suc (length a) = omega arith in stored_append (set l k x) (suc k) a b ∙ rw e
 
-stored_sets : (l : List ℕ) (k : ℕ) (v : List ℕ) → stored l k v ≡ sets l k v
+pub stored_sets : (l : List ℕ) (k : ℕ) (v : List ℕ) → stored l k v ≡ sets l k v
 unfolding stored
 stored_sets l k [] = refl
 stored_sets l k (x ∷ v) = stored_sets (set l k x) (suc k) v

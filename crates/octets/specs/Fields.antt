@@ -1,5 +1,7 @@
 -- Fields of an image, as document 01 lists them, each by its width in bits: "N (8), S (16), wakes (32 each)", "hearers (64)".
-use Rattle.std.specs.Prelude.{Bool, cond, ◌&&◌, List, [], ◌∷◌, ◌++◌, ℕ, zero, suc, ◌+◌, ◌*◌, eqb, set, replicate}
+use Rattle.std.specs.Prelude.{◌≡◌, Bool, cond, ◌&&◌, Result, MatchResult, List, [], ◌∷◌, ◌++◌, ℕ, zero, suc, ◌+◌, ◌*◌, eqb, set, replicate}
+use Rattle.words.specs.declared.Refusal.{Refusal}
+use Rattle.words.specs.Refusal.{number_of}
 use Rattle.rules.specs.Limits.{max_heads}
 use Rattle.octets.specs.Bytes.{bytes_of, number_at}
 
@@ -77,3 +79,7 @@ count_in l = number_at l count_place 1
 -- "A reader's refusal returns an all-zero record."
 unfoldable pub or_blank : {A : Type 0} → ℕ → A → A → A
 or_blank refusal x zeros = cond (eqb refusal 0) x zeros
+
+-- the same before the refusal takes the zeros along: what is read, where the number of the refusal is 0, or that refusal
+abbrev pub Reads : {A : Type 0} → Result A Refusal → ℕ → A → Type 0
+Reads r number x = MatchResult r (λ y. (number ≡ 0) × (y ≡ x)) (λ why. number_of why ≡ number)

@@ -15,22 +15,14 @@ const VERSION_AT: usize = 3;
 
 pub const COUNT_AT: usize = 5;
 
-fn wide(x: u8) -> u64
-    ensures { (result ≡ x) × (result < 256) }
-{
-    x as u64
-}
-
 // The number that the bytes from a place on make.
 pub fn number(image: &[u8], at: usize, width: usize) -> u64
     requires { (width ≤ 8) × (at + width ≤ length image.now) }
     ensures { (result ≡ number_at image.now at width) × (result < 256 ^ width) }
 {
-    let mut x: u64 = 0;
-    let mut i = width;
-    while 0 < i {
-        i -= 1;
-        x = x * 256 + wide(image[at + i]);
+    let mut x = 0;
+    for i in (at..at + width).rev() {
+        x = x * 256 + u64::from(image[i]);
     }
     x
 }
@@ -61,12 +53,10 @@ pub fn store(room: &mut [u8], at: usize, width: usize, x: u64)
     requires { at + width ≤ length room.old }
     ensures { room.new ≡ stored room.old at (bytes_of width x) }
 {
-    let mut y = x;
-    let mut i: usize = 0;
-    while i < width {
-        room[at + i] = (y % 256) as u8;
-        y = y / 256;
-        i += 1;
+    let mut rest = x;
+    for byte in &mut room[at..at + width] {
+        *byte = (rest % 256) as u8;
+        rest /= 256;
     }
 }
 
@@ -81,12 +71,10 @@ pub fn store_opening(room: &mut [u8], mark: u64, n: u8)
 }
 
 // Whether an image begins with this mark and with the version.
+#[tactic(auto, unfolding(crate::specs::Fields::is_marked))]
 pub fn marked(image: &[u8], mark: u64) -> bool
     requires { opening ≤ length image.now }
     ensures { result ≡ is_marked mark image.now }
 {
-    if number(image, 0, 3) != mark {
-        return false;
-    }
-    number(image, VERSION_AT, 2) == VERSION
+    number(image, 0, 3) == mark && number(image, VERSION_AT, 2) == VERSION
 }

@@ -1,14 +1,16 @@
 -- A writer into lent room, case by case: refused for what it is given, refused for short room, or done.
-use mathlib.Core.Path.{◌≡◌, sym}
+use mathlib.Core.Path.{◌≡◌, sym, ◌∙◌}
 use mathlib.Core.List.{List, ◌++◌}
 use Prim.Native.Nat.{ℕ, ◌≤◌, ◌<◌}
 use native.Mathlib.Omega.{arith}
 use lib.ListN.{length, drop}
 use borrow.Author.Tests.{ne_eqb, le-leb, lt-leb}
+use Rattle.std.specs.Prelude.{Err}
+use Rattle.words.specs.declared.Refusal.{Refusal}
 use Rattle.words.specs.declared.Refusal.TheVariants.{ShortRoom}
 use Rattle.words.specs.Refusal.{number_of, unless, first_refusal}
-use Rattle.words.proofs.Order.{first_some}
-use Rattle.rules.specs.Room.{write_refusal, bytes_written, room_after}
+use Rattle.words.proofs.Order.{number_some, first_some}
+use Rattle.rules.specs.Room.{write_refusal, bytes_written, room_after, Wrote}
 
 module _ (unfit : ℕ) (image room : List ℕ) where
   pub write_unfit : (unfit ≡ 0 → ⊥) → unfit ≡ write_refusal unfit image room
@@ -27,6 +29,12 @@ module _ (unfit : ℕ) (image room : List ℕ) where
 pub wrote_none : (number : ℕ) (image room : List ℕ) → (number ≡ 0 → ⊥) → (0 ≡ bytes_written number image) × (room ≡ room_after number image room)
 unfolding bytes_written room_after
 wrote_none number image room n = (rw (ne_eqb _ _ n), rw (ne_eqb _ _ n))
+
+pub wrote_unfit : (why : Refusal) (unfit : ℕ) (image room : List ℕ) → number_of why ≡ unfit → Wrote (Err why) unfit image room room
+wrote_unfit why unfit image room e =
+    let u : number_of why ≡ write_refusal unfit image room = e ∙ write_unfit unfit image room (λ z. omega (arith, number_some why)) in
+    let w = wrote_none (write_refusal unfit image room) image room (λ z. omega (arith, number_some why)) in
+    (u, w.0, w.1)
 
 pub wrote_short : (unfit : ℕ) (image room : List ℕ) → unfit ≡ 0 → length room < length image
     → (number_of ShortRoom ≡ write_refusal unfit image room) × (0 ≡ bytes_written (write_refusal unfit image room) image) × (room ≡ room_after (write_refusal unfit image room) image room)

@@ -16,6 +16,14 @@ impl Table {
 
     pub const LATEST_WAKE: u32 = 1000000;
 
+    // The all-zero record.
+    pub const BLANK: Table = Table {
+        n: 0,
+        s: 0,
+        p: 0,
+        wakes: [0; State::MAX_HEADS],
+    };
+
     #[tactic(auto, unfolding(crate::specs::Table::table_refusal, words::specs::Refusal::unless))]
     // The table rules: accepted, or refused for a number outside its range (3).
     pub fn check(self) -> Verdict
