@@ -14,14 +14,14 @@ use Rattle.rules.specs.declared.Head.{Head}
 use Rattle.rules.specs.declared.State.{State}
 use Rattle.rules.specs.State.{phase_number, slot_number, head_of}
 use Rattle.lines.specs.Decimal.{decimal}
-use Rattle.lines.specs.Line.{space, lf, line_of, letter_of, row_line, step_line, end_line}
+use Rattle.lines.specs.Line.{space, lf, line_of, letter_of, row_line, step_line, end_line, longest_line}
 use Rattle.lines.specs.Room.{over, wrote, written, bytes_put, room_after}
 use Rattle.lines.proofs.Over.{over_none, over_next}
 
 -- ---- what a writer of the line v promises: an answer r, and the room m
 
 abbrev pub Puts : List ℕ → ℕ → List ℕ → Option ℕ → List ℕ → Type 0
-Puts l at v r m = (r ≡ written (length l) at v) × (m ≡ room_after l at v)
+Puts l at v r m = (r ≡ written (length l) at v) × (m ≡ room_after l at v) × (length v ≤ longest_line)
 
 -- what is answered counts the bytes that are put
 pub counts : (size at : ℕ) (v : List ℕ) → bytes_put (written size at v) ≡ wrote size at v
@@ -31,15 +31,15 @@ counts size at v = elim (less_or_not size (at + length v)) [
   | inr h ↦ rw (le-leb _ _ h)
 ]
 
-module _ (l : List ℕ) (at : ℕ) (v : List ℕ) where
+module _ (l : List ℕ) (at : ℕ) (v : List ℕ) (short : length v ≤ longest_line) where
   -- room for none of the line, and for all of it
   pub none_put : length l < at + length v → Puts l at v None l
   unfolding written room_after
-  none_put h = rw (lt-leb _ _ h) (refl, refl)
+  none_put h = rw (lt-leb _ _ h) (refl, refl, short)
 
   all_put : at + length v ≤ length l → (r : ℕ) → r ≡ length v → (m : List ℕ) → m ≡ over l at v → Puts l at v (Some r) m
   unfolding written room_after
-  all_put h r e m f = rw (le-leb _ _ h) (ap Some e, f)
+  all_put h r e m f = rw (le-leb _ _ h) (ap Some e, f, short)
 
 -- ---- piece after piece
 
@@ -65,8 +65,8 @@ module _ (l : List ℕ) (at : ℕ) where
   put_number w n after h e q x y = let k = length-append (decimal n) (after ∷ []) in put_more w (decimal n ++ (after ∷ [])) e q (omega arith) (omega arith) y
 
   -- the whole of a line
-  put_whole : {a m : List ℕ} {p : ℕ} → Put l at a m p → (v : List ℕ) → a ≡ v → at + length v ≤ length l → (r : ℕ) → r ≡ length v → Puts l at v (Some r) m
-  put_whole {a} {m} w v e h r k = all_put l at v h r k m (w.room ∙ ap (over l at) e)
+  put_whole : {a m : List ℕ} {p : ℕ} → Put l at a m p → (v : List ℕ) → a ≡ v → length v ≤ longest_line → at + length v ≤ length l → (r : ℕ) → r ≡ length v → Puts l at v (Some r) m
+  put_whole {a} {m} w v e short h r k = all_put l at v short h r k m (w.room ∙ ap (over l at) e)
 
 -- ---- the two kinds of line
 
@@ -96,7 +96,7 @@ Number m p n after q e = (q ≡ p + length (decimal n) + 1) × (e ≡ over m p (
 abbrev Text : List ℕ → ℕ → List ℕ → ℕ → List ℕ → Type 0
 Text m p v q e = (q ≡ p + length v) × (e ≡ over m p v)
 
-pub row_written : (l : List ℕ) (at clock letter i phase slot timeout : ℕ) → at + length (row_line clock letter i phase slot timeout) ≤ length l
+pub row_written : (l : List ℕ) (at clock letter i phase slot timeout : ℕ) → length (row_line clock letter i phase slot timeout) ≤ longest_line → at + length (row_line clock letter i phase slot timeout) ≤ length l
     → (r : ℕ) → r ≡ length (row_line clock letter i phase slot timeout)
     → (m₁ : List ℕ) (p₁ : ℕ) → Number l at clock space p₁ m₁
     → (m₂ : List ℕ) (p₂ : ℕ) → Text m₁ p₁ (letter ∷ space ∷ []) p₂ m₂
@@ -105,7 +105,7 @@ pub row_written : (l : List ℕ) (at clock letter i phase slot timeout : ℕ) �
     → (m₅ : List ℕ) (p₅ : ℕ) → Number m₄ p₄ slot space p₅ m₅
     → (m₆ : List ℕ) (p₆ : ℕ) → Number m₅ p₅ timeout lf p₆ m₆ → (m : List ℕ) → m ≡ m₆
     → Puts l at (row_line clock letter i phase slot timeout) (Some r) m
-row_written l at clock letter i phase slot timeout h r e m₁ p₁ n₁ m₂ p₂ n₂ m₃ p₃ n₃ m₄ p₄ n₄ m₅ p₅ n₅ m₆ p₆ n₆ m f =
+row_written l at clock letter i phase slot timeout short h r e m₁ p₁ n₁ m₂ p₂ n₂ m₃ p₃ n₃ m₄ p₄ n₄ m₅ p₅ n₅ m₆ p₆ n₆ m f =
     let k = row_long clock letter i phase slot timeout in
     let w₁ = put_number l at (put_none l at) clock space (omega arith) m₁ p₁ n₁.0 n₁.1 in
     let w₂ = put_more l at w₁ (letter ∷ space ∷ []) m₂ p₂ (omega arith) n₂.0 n₂.1 in
@@ -113,20 +113,20 @@ row_written l at clock letter i phase slot timeout h r e m₁ p₁ n₁ m₂ p�
     let w₄ = put_number l at w₃ phase space (omega arith) m₄ p₄ n₄.0 n₄.1 in
     let w₅ = put_number l at w₄ slot space (omega arith) m₅ p₅ n₅.0 n₅.1 in
     let w₆ = put_number l at w₅ timeout lf (omega arith) m₆ p₆ n₆.0 n₆.1 in
-    rw f (put_whole l at w₆ _ (row_pieces clock letter i phase slot timeout) h r e)
+    rw f (put_whole l at w₆ _ (row_pieces clock letter i phase slot timeout) short h r e)
 
-pub end_written : (l : List ℕ) (at accepted refusal : ℕ) → at + length (end_line accepted refusal) ≤ length l
+pub end_written : (l : List ℕ) (at accepted refusal : ℕ) → length (end_line accepted refusal) ≤ longest_line → at + length (end_line accepted refusal) ≤ length l
     → (r : ℕ) → r ≡ length (end_line accepted refusal)
     → (m₁ : List ℕ) (p₁ : ℕ) → Text l at (69 ∷ 78 ∷ 68 ∷ space ∷ []) p₁ m₁
     → (m₂ : List ℕ) (p₂ : ℕ) → Number m₁ p₁ accepted space p₂ m₂
     → (m₃ : List ℕ) (p₃ : ℕ) → Number m₂ p₂ refusal lf p₃ m₃ → (m : List ℕ) → m ≡ m₃
     → Puts l at (end_line accepted refusal) (Some r) m
-end_written l at accepted refusal h r e m₁ p₁ n₁ m₂ p₂ n₂ m₃ p₃ n₃ m f =
+end_written l at accepted refusal short h r e m₁ p₁ n₁ m₂ p₂ n₂ m₃ p₃ n₃ m f =
     let k = end_long accepted refusal in
     let w₁ = put_more l at (put_none l at) (69 ∷ 78 ∷ 68 ∷ space ∷ []) m₁ p₁ (omega arith) n₁.0 n₁.1 in
     let w₂ = put_number l at w₁ accepted space (omega arith) m₂ p₂ n₂.0 n₂.1 in
     let w₃ = put_number l at w₂ refusal lf (omega arith) m₃ p₃ n₃.0 n₃.1 in
-    rw f (put_whole l at w₃ _ (end_pieces accepted refusal) h r e)
+    rw f (put_whole l at w₃ _ (end_pieces accepted refusal) short h r e)
 
 -- a step's line, by the numbers that the code takes out of the state and the step
 pub step_is : (s : State) (x : Step) (i letter phase slot : ℕ) (h : Head) → i ≡ head_number x → h ≡ head_of s.heads i → letter ≡ letter_of x

@@ -6,7 +6,7 @@
 ghost use Rattle.std.specs.Prelude.{◌≡◌, [], ◌∷◌, ◌++◌, ◌+◌, ◌≤◌, ◌<◌, length};
 ghost use Rattle.rules.specs.State.{head_of};
 ghost use Rattle.lines.specs.Decimal.{decimal};
-ghost use Rattle.lines.specs.Line.{letter_of, step_line, end_line};
+ghost use Rattle.lines.specs.Line.{letter_of, step_line, end_line, longest_line};
 ghost use Rattle.lines.specs.Room.{over, written, room_after};
 
 use rules::{Head, State};
@@ -17,9 +17,9 @@ const SPACE: u8 = b' ';
 const LF: u8 = b'\n';
 
 // The line of an accepted step x that led to the state s, put into the room from position at on. Answers how many bytes it put, or
-// None with the room as it was where the whole line does not fit.
+// None with the room as it was where the whole line does not fit; it fits into room for the longest line.
 pub fn put_step(room: &mut [u8], at: usize, s: State, x: Step) -> Option<usize>
-    ensures { (result ≡ written (length room.old) at (step_line s x)) × (room.new ≡ room_after room.old at (step_line s x)) }
+    ensures { (result ≡ written (length room.old) at (step_line s x)) × (room.new ≡ room_after room.old at (step_line s x)) × (length (step_line s x) ≤ longest_line) }
 {
     let head = x.head();
     let h = head_at(s, head);
@@ -42,7 +42,7 @@ pub fn put_step(room: &mut [u8], at: usize, s: State, x: Step) -> Option<usize>
 
 // The last line, put and answered in the same way.
 pub fn put_end(room: &mut [u8], at: usize, accepted: u32, refusal: u8) -> Option<usize>
-    ensures { (result ≡ written (length room.old) at (end_line accepted refusal)) × (room.new ≡ room_after room.old at (end_line accepted refusal)) }
+    ensures { (result ≡ written (length room.old) at (end_line accepted refusal)) × (room.new ≡ room_after room.old at (end_line accepted refusal)) × (length (end_line accepted refusal) ≤ longest_line) }
 {
     let number = refusal as u32;
     let need = width(accepted) + width(number) + 6;
