@@ -1,13 +1,5 @@
 -- Laws of a number's decimal text.
-use mathlib.Core.Path.{◌≡◌, refl, sym}
-use mathlib.Core.Logic.{inl, inr}
-use mathlib.Core.List.{List, [], ◌∷◌, ◌++◌}
-use Prim.Native.Nat.{ℕ, zero, suc, ◌+◌, ◌*◌, ◌/◌, ◌^◌, ◌≤◌, ◌<◌}
-use native.Mathlib.Omega.{arith}
-use lib.ListN.{length, length-append}
-use borrow.Author.Tests.{lt-ltb, le-ltb}
-use Rattle.std.specs.Prelude.{Option, None, Some}
-use Rattle.std.specs.Option.{unwrap_or, IfNone, IfSome}
+use Rattle.std.proofs.Common.{◌≡◌, refl, sym, inl, inr, List, [], ◌∷◌, ◌++◌, ℕ, zero, suc, ◌+◌, ◌*◌, ◌/◌, ◌^◌, ◌≤◌, ◌<◌, arith, length, length-append, lt-ltb, le-ltb, Option, None, Some, unwrap_or, IfNone, IfSome}
 use Rattle.rules.proofs.Each.{less_or_not}
 use Rattle.lines.specs.Decimal.{digit, decimal_in, decimal}
 
@@ -30,14 +22,14 @@ unfolding decimal decimal_in
 decimal_more n h = rw (le-ltb n 10 h, turns n (suc (n / 10)) (n / 10) (omega arith) (omega arith))
 
 -- how many digits
-pub few_long : (n : ℕ) → n ≤ 9 → length (decimal n) ≡ 1
+few_long : (n : ℕ) → n ≤ 9 → length (decimal n) ≡ 1
 few_long n h = rw (decimal_few n h)
 
-pub more_long : (n : ℕ) → 9 < n → length (decimal n) ≡ length (decimal (n / 10)) + 1
+more_long : (n : ℕ) → 9 < n → length (decimal n) ≡ length (decimal (n / 10)) + 1
 more_long n h = rw (decimal_more n h) (length-append (decimal (n / 10)) (digit n ∷ []))
 
 -- a number from one power of ten to below the next has one digit more than the power
-pub power_long : (k n : ℕ) → 10 ^ k ≤ n → n < 10 * 10 ^ k → length (decimal n) ≡ k + 1
+power_long : (k n : ℕ) → 10 ^ k ≤ n → n < 10 * 10 ^ k → length (decimal n) ≡ k + 1
 power_long zero n a b = few_long n (omega arith)
 power_long (suc k) n a b = omega (arith, more_long n (omega arith), power_long k (n / 10) (omega arith) (omega arith))
 

@@ -1,10 +1,7 @@
 -- Laws of bytes put over a room.
-use mathlib.Core.Path.{◌≡◌, sym, ap, ◌∙◌}
-use mathlib.Core.List.{List, [], ◌∷◌, ◌++◌, append_assoc, append-nil}
-use Prim.Native.Nat.{ℕ, suc, ◌+◌, ◌-◌, ◌/◌, ◌≤◌, ◌<◌}
-use native.Mathlib.Omega.{arith}
-use lib.ListN.{length, set, take, drop, take-append-drop, length-append, length-set}
-use lib.Seq.{take_at, drop-append-add, drop-drop, length-take-le, take-set-le, drop-set-lt, drop-cons, get_or-set_same}
+use Rattle.std.proofs.Common.{◌≡◌, sym, ap, ◌∙◌, List, [], ◌∷◌, ◌++◌, append_assoc, append-nil, ℕ, suc, ◌+◌, ◌-◌, ◌/◌, ◌≤◌, ◌<◌, arith, length, set, take, drop, take-append-drop, length-append, length-set, take_at, drop-drop, length-take-le, drop-set-lt, drop-cons, get_or-set_same}
+use Rattle.std.proofs.Math.Seq.{drop-append-add}
+use Rattle.std.proofs.lemmas.List.{take-set-le}
 use Rattle.lines.specs.Decimal.{digit, decimal}
 use Rattle.lines.specs.Room.{over}
 use borrow.Rule.Slice.PartMut.{put_mid}

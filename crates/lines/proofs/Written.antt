@@ -1,12 +1,6 @@
 -- A line put piece by piece, in the code's own terms: what each return of a writer cites.
-use mathlib.Core.Path.{◌≡◌, refl, sym, ap, ◌∙◌}
-use mathlib.Core.List.{List, [], ◌∷◌, ◌++◌, append_assoc}
-use Prim.Native.Nat.{ℕ, ◌+◌, ◌≤◌, ◌<◌}
-use native.Mathlib.Omega.{arith}
-use lib.ListN.{length, length-append}
-use borrow.Author.Tests.{le-leb, lt-leb}
-use mathlib.Core.Logic.{inl, inr}
-use Rattle.std.specs.Prelude.{Option, None, Some}
+use Rattle.std.proofs.Common.{◌≡◌, refl, sym, ap, ◌∙◌, List, [], ◌∷◌, ◌++◌, append_assoc, ℕ, ◌+◌, ◌≤◌, ◌<◌, arith, length, length-append, le-leb, inl, inr, Option, None, Some}
+use Rattle.std.proofs.lemmas.Bool.{lt-leb}
 use Rattle.rules.proofs.Each.{less_or_not}
 use Rattle.words.specs.declared.Step.{Step}
 use Rattle.words.specs.Pair.{head_number}

@@ -1,8 +1,5 @@
 -- The start of a listing.
-use mathlib.Core.Path.{◌≡◌}
-use mathlib.Core.List.{List}
-use Prim.Native.Nat.{ℕ}
-use lib.ListN.{take, drop}
+use Rattle.std.proofs.Common.{◌≡◌, List, ℕ, take, drop}
 use Rattle.words.specs.Refusal.{verdict_number}
 use Rattle.rules.specs.State.{fresh}
 use Rattle.table_images.specs.TableImage.{read_table_refusal, read_table}

@@ -14,7 +14,7 @@ abbrev pub left : Option Place → List ℕ
 left None = []
 left (Some p) = rest p
 
--- a place in an input: no more steps are accepted than bytes are passed
+-- a place in an input: a step is accepted for each pair that is passed, so steps and bytes that follow are no more than the bytes of an input
 abbrev pub Stands : Place → Type 0
 Stands p = p.accepted + length p.pairs.now ≤ input_most
 

@@ -1,5 +1,4 @@
-use native.Mathlib.Omega.{arith}
-use borrow.Author.Rules.{rules}
+use Rattle.std.proofs.Common.{arith, rules}
 use Rattle.lines.proofs.Written.{none_put, end_long, end_written}
 use Rattle.lines.proofs.put_end.Goals as goal
 

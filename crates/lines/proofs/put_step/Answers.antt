@@ -1,6 +1,4 @@
-use mathlib.Core.Path.{refl}
-use native.Mathlib.Omega.{arith}
-use borrow.Author.Rules.{rules}
+use Rattle.std.proofs.Common.{refl, arith, rules}
 use Rattle.lines.specs.Line.{letter_of}
 use Rattle.lines.proofs.Written.{none_put, row_long, row_written, step_is}
 use Rattle.lines.proofs.put_step.Goals as goal

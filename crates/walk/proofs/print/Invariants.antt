@@ -1,6 +1,4 @@
-use Prim.Native.Nat.{◌≤◌}
-use lib.ListN.{length}
-use Rattle.std.specs.Option.{IfSome}
+use Rattle.std.proofs.Common.{◌≤◌, length, IfSome}
 use Rattle.lines.specs.Line.{longest_line}
 use Rattle.walk.specs.Pieces.{Stands}
 use Rattle.walk.proofs.Lays.{left_pairs}

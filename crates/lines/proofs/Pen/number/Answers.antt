@@ -1,6 +1,4 @@
-use mathlib.Core.Path.{refl, sym, ◌∙◌}
-use native.Mathlib.Omega.{arith}
-use lib.ListN.{length-set}
+use Rattle.std.proofs.Common.{refl, sym, ◌∙◌, arith, length-set}
 use Rattle.lines.proofs.Over.{over_before, digit_back, digits_all, digits_none}
 use Rattle.lines.proofs.Pen.number.Goals as goal
 

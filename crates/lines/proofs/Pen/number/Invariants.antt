@@ -1,6 +1,4 @@
-use mathlib.Core.Path.{◌≡◌}
-use Prim.Native.Nat.{◌-◌, ◌≤◌}
-use lib.ListN.{length}
+use Rattle.std.proofs.Common.{◌≡◌, ◌-◌, ◌≤◌, length}
 use Rattle.lines.specs.Decimal.{decimal}
 use Rattle.lines.specs.Room.{over}
 use Rattle.lines.proofs.Numbers.{last_digits}

@@ -1,4 +1,4 @@
-use native.Mathlib.Omega.{arith}
+use Rattle.std.proofs.Common.{arith}
 use Rattle.lines.proofs.Over.{part_over}
 use Rattle.lines.proofs.Pen.text.Goals as goal
 

@@ -1,4 +1,4 @@
-use mathlib.Core.Path.{refl}
+use Rattle.std.proofs.Common.{refl}
 use Rattle.walk.proofs.Opens.{starts}
 use Rattle.walk.proofs.opening.start.Goals as goal
 

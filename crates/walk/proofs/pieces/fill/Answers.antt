@@ -1,6 +1,4 @@
-use mathlib.Core.Path.{refl}
-use native.Mathlib.Omega.{arith}
-use borrow.Author.Rules.{rules}
+use Rattle.std.proofs.Common.{refl, arith, rules}
 use Rattle.std.proofs.lemmas.Slice.{between_to_end}
 use Rattle.walk.proofs.Lays.{some_put, rest_refused, rest_none, rest_lone, rest_stops, goes_on, waits}
 use Rattle.walk.proofs.pieces.fill.Goals as goal

@@ -1,4 +1,4 @@
-use lib.ListN.{length}
+use Rattle.std.proofs.Common.{length}
 use Rattle.walk.proofs.Lays.{Going}
 use Rattle.walk.proofs.pieces.fill.Given as goal
 

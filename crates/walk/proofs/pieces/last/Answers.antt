@@ -1,6 +1,4 @@
-use mathlib.Core.Path.{ap, sym, ◌∙◌}
-use native.Mathlib.Omega.{arith}
-use mathlib.Core.List.{append-nil}
+use Rattle.std.proofs.Common.{◌∙◌, arith, append-nil}
 use Rattle.walk.proofs.Lays.{some_put, none_put}
 use Rattle.walk.proofs.pieces.last.Goals as goal
 
