@@ -1,7 +1,6 @@
 pub mod Numbers
 pub mod Over
 pub mod Written
-pub mod Places
 pub mod Unique
 pub mod Reading
 pub mod Worked

@@ -1,34 +1,21 @@
 -- Laws of bytes put over a room.
-use mathlib.Core.Path.{◌≡◌, sym, ap, ◌∙◌}
-use mathlib.Core.List.{List, [], ◌∷◌, ◌++◌, append_assoc}
-use Prim.Native.Nat.{ℕ, suc, ◌+◌, ◌-◌, ◌/◌, ◌≤◌, ◌<◌}
-use native.Mathlib.Omega.{arith}
-use lib.ListN.{length, set, take, drop, length-append, length-drop, length-set}
-use lib.Seq.{sets, sets-eq, take_at, drop-append-add, drop-drop, length-take-le, take-set-le, drop-set-lt, drop-cons, get_or-set_same}
+use Rattle.std.proofs.Common.{◌≡◌, sym, ap, ◌∙◌, List, [], ◌∷◌, ◌++◌, append_assoc, append-nil, ℕ, suc, ◌+◌, ◌-◌, ◌/◌, ◌≤◌, ◌<◌, arith, length, set, take, drop, take-append-drop, length-append, length-set, take_at, drop-drop, length-take-le, drop-set-lt, drop-cons, get_or-set_same}
+use Rattle.std.proofs.Math.Seq.{drop-append-add}
+use Rattle.std.proofs.lemmas.List.{take-set-le}
 use Rattle.lines.specs.Decimal.{digit, decimal}
 use Rattle.lines.specs.Room.{over}
-use Rattle.lines.proofs.Numbers.{decimal_few, decimal_more, more_long}
+use borrow.Rule.Slice.PartMut.{put_mid}
+use Rattle.lines.proofs.Numbers.{last_digits, last_long, last_all}
 
--- stores one after the other, as they stand in the code
-pub sets_over : (l : List ℕ) (k : ℕ) (v : List ℕ) → k + length v ≤ length l → sets l k v ≡ over l k v
+-- no bytes
+pub over_none : (l : List ℕ) (k : ℕ) → over l k [] ≡ l
 unfolding over
-sets_over l k v h = sets-eq v l k h
+over_none l k = let e : k + 0 ≡ k = omega arith in rw (e, append-nil (take k l)) (take-append-drop k l)
 
-pub two_over : (l : List ℕ) (k a b : ℕ) → k + 2 ≤ length l → set (set l k a) (k + 1) b ≡ over l k (a ∷ b ∷ [])
-two_over l k a b h = let e : k + 1 ≡ suc k = omega arith in rw e (sets_over l k (a ∷ b ∷ []) h)
-
-pub four_over : (l : List ℕ) (k a b c d : ℕ) → k + 4 ≤ length l → set (set (set (set l k a) (k + 1) b) (k + 2) c) (k + 3) d ≡ over l k (a ∷ b ∷ c ∷ d ∷ [])
-four_over l k a b c d h =
-    let e₁ : k + 1 ≡ suc k = omega arith in
-    let e₂ : k + 2 ≡ suc (suc k) = omega arith in
-    let e₃ : k + 3 ≡ suc (suc (suc k)) = omega arith in
-    rw (e₁, e₂, e₃) (sets_over l k (a ∷ b ∷ c ∷ d ∷ []) h)
-
-pub length_over : (l : List ℕ) (k : ℕ) (v : List ℕ) → k + length v ≤ length l → length (over l k v) ≡ length l
+-- a part of the room written as one
+pub part_over : (l : List ℕ) (k : ℕ) (v : List ℕ) (n : ℕ) → n ≡ length v → put_mid k n l v ≡ over l k v
 unfolding over
-length_over l k v h =
-    let t : length (take k l) ≡ k = length-take-le k l (omega arith) in
-    simp (length-append, length-drop, t) (omega arith)
+part_over l k v n e = rw e (ap (λ (r : List ℕ). take k l ++ (v ++ r)) (drop-drop (length v) k l) ∙ sym (append_assoc (take k l) v (drop (k + length v) l)))
 
 -- bytes, and more bytes right after them
 pub over_next : (l : List ℕ) (k : ℕ) (a b : List ℕ) (j : ℕ) → j ≡ k + length a → j + length b ≤ length l → over (over l k a) j b ≡ over l k (a ++ b)
@@ -56,10 +43,16 @@ over_before l k a d j e h =
 
 -- ---- a number's digits, put from the last to the first
 
-pub digit_back : (l : List ℕ) (at i n : ℕ) → 9 < n → i ≡ at + length (decimal n) → i ≤ length l → over (set l (i - 1) (digit n)) at (decimal (n / 10)) ≡ over l at (decimal n)
-digit_back l at i n h e b =
-    let w = more_long n h in
-    over_before l at (decimal (n / 10)) (digit n) (i - 1) (omega (arith, w)) (omega (arith, w)) ∙ ap (over l at) (sym (decimal_more n h))
+pub digit_back : (l : List ℕ) (at i n : ℕ) → at < i → i ≤ length l → over (set l (i - 1) (digit n)) at (last_digits (i - 1 - at) (n / 10)) ≡ over l at (last_digits (i - at) n)
+unfolding last_digits
+digit_back l at i n h b =
+    let e : i - at ≡ suc (i - 1 - at) = omega arith in
+    rw e (over_before l at (last_digits (i - 1 - at) (n / 10)) (digit n) (i - 1) (omega (arith, last_long (i - 1 - at) (n / 10))) (omega arith))
 
-pub digit_first : (l : List ℕ) (at n : ℕ) → n ≤ 9 → at < length l → set l at (digit n) ≡ over l at (decimal n)
-digit_first l at n h b = rw (decimal_few n h) (sets_over l at (digit n ∷ []) (omega arith))
+-- the first of them is the whole number, and after the last none is left
+pub digits_all : (l : List ℕ) (at k n : ℕ) → k ≡ at + length (decimal n) → over l at (last_digits (k - at) n) ≡ over l at (decimal n)
+digits_all l at k n e = let f : k - at ≡ length (decimal n) = omega arith in rw (f, last_all n)
+
+pub digits_none : (l : List ℕ) (at k n : ℕ) → k ≤ at → over l at (last_digits (k - at) n) ≡ l
+unfolding last_digits
+digits_none l at k n h = let f : k - at ≡ 0 = omega arith in rw f (over_none l at)

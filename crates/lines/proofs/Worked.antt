@@ -1,5 +1,5 @@
 -- The listing of table E, by computation.
-use mathlib.Core.Path.{refl}
+use Rattle.std.proofs.Common.{refl}
 use Rattle.rules.specs.State.{head_of}
 use Rattle.lines.specs.Decimal.{decimal_in, decimal}
 use Rattle.lines.specs.Line.{line_of, row_line, step_line, end_line}

@@ -39,3 +39,7 @@ step_line s x =
 -- "Last line: `END`, steps accepted, refusal number or 0."
 unfoldable pub end_line : ℕ → ℕ → List ℕ
 end_line accepted refusal = line_of ((69 ∷ 78 ∷ 68 ∷ []) ∷ decimal accepted ∷ decimal refusal ∷ [])
+
+-- room for any line: five numbers of ten digits at most, a letter, five spaces and LF
+abbrev pub longest_line : ℕ
+longest_line = 57

@@ -4,145 +4,114 @@
 #![tactic(auto)]
 
 ghost use Rattle.std.specs.Prelude.{◌≡◌, [], ◌∷◌, ◌++◌, ◌+◌, ◌≤◌, ◌<◌, length};
-ghost use Rattle.rules.specs.State.{no_head, head_of};
+ghost use Rattle.rules.specs.State.{head_of};
 ghost use Rattle.lines.specs.Decimal.{decimal};
-ghost use Rattle.lines.specs.Line.{letter_of, row_line, step_line, end_line};
-ghost use Rattle.lines.specs.Room.{over, wrote, room_after};
+ghost use Rattle.lines.specs.Line.{letter_of, step_line, end_line, longest_line};
+ghost use Rattle.lines.specs.Room.{over, written, room_after};
 
-use rules::{Head, Phase, State};
+use rules::{Head, State};
 use words::Step;
 
-const SPACE: u8 = 32;
+const SPACE: u8 = b' ';
 
-const LF: u8 = 10;
+const LF: u8 = b'\n';
 
-// The line of an accepted step x that led to the state s, put into the room from position at on. Answers how many bytes it put:
-// none where the whole line does not fit.
-pub fn put_step(room: &mut [u8], at: usize, s: State, x: Step) -> usize
-    ensures { (result ≡ wrote (length room.old) at (step_line s x)) × (room.new ≡ room_after room.old at (step_line s x)) }
+// The line of an accepted step x that led to the state s, put into the room from position at on. Answers how many bytes it put, or
+// None with the room as it was where the whole line does not fit; it fits into room for the longest line.
+pub fn put_step(room: &mut [u8], at: usize, s: State, x: Step) -> Option<usize>
+    ensures { (result ≡ written (length room.old) at (step_line s x)) × (room.new ≡ room_after room.old at (step_line s x)) × (length (step_line s x) ≤ longest_line) }
 {
-    let i = x.head();
-    let h = head_at(s, i);
-    let ph = h.phase;
-    put_row(
-        room,
-        at,
-        s.clock,
-        letter(x),
-        i,
-        ph.number(),
-        ph.slot(),
-        h.timeout,
-    )
+    let head = x.head();
+    let h = head_at(s, head);
+    let i = head as u32;
+    let phase = h.phase.number() as u32;
+    let slot = h.phase.slot() as u32;
+    let need = width(s.clock) + width(i) + width(phase) + width(slot) + width(h.timeout) + 7;
+    if room.len().saturating_sub(at) < need {
+        return None;
+    }
+    let mut pen = Pen { room, at };
+    pen.number(s.clock, SPACE);
+    pen.text(&[letter(x), SPACE]);
+    pen.number(i, SPACE);
+    pen.number(phase, SPACE);
+    pen.number(slot, SPACE);
+    pen.number(h.timeout, LF);
+    Some(need)
 }
 
 // The last line, put and answered in the same way.
-pub fn put_end(room: &mut [u8], at: usize, accepted: u32, refusal: u8) -> usize
-    ensures { (result ≡ wrote (length room.old) at (end_line accepted refusal)) × (room.new ≡ room_after room.old at (end_line accepted refusal)) }
+pub fn put_end(room: &mut [u8], at: usize, accepted: u32, refusal: u8) -> Option<usize>
+    ensures { (result ≡ written (length room.old) at (end_line accepted refusal)) × (room.new ≡ room_after room.old at (end_line accepted refusal)) × (length (end_line accepted refusal) ≤ longest_line) }
 {
     let number = refusal as u32;
     let need = width(accepted) + width(number) + 6;
-    if room.len() < at {
-        return 0;
+    if room.len().saturating_sub(at) < need {
+        return None;
     }
-    if room.len() - at < need {
-        return 0;
-    }
-    room[at] = b'E';
-    room[at + 1] = b'N';
-    room[at + 2] = b'D';
-    room[at + 3] = SPACE;
-    let p = put_number(room, at + 4, accepted, SPACE);
-    let q = put_number(room, p, number, LF);
-    q - at
+    let mut pen = Pen { room, at };
+    pen.text(b"END ");
+    pen.number(accepted, SPACE);
+    pen.number(number, LF);
+    Some(need)
 }
 
-// A step's line by its six fields.
-fn put_row(
-    room: &mut [u8],
+// Room that is being written, and where its next byte goes.
+#[derive(Drop)]
+struct Pen<'a> {
+    room: &'a mut [u8],
     at: usize,
-    clock: u32,
-    letter: u8,
-    i: u8,
-    phase: u8,
-    slot: u8,
-    timeout: u32,
-) -> usize
-    ensures { (result ≡ wrote (length room.old) at (row_line clock letter i phase slot timeout)) × (room.new ≡ room_after room.old at (row_line clock letter i phase slot timeout)) }
-{
-    let need = width(clock)
-        + width(i as u32)
-        + width(phase as u32)
-        + width(slot as u32)
-        + width(timeout)
-        + 7;
-    if room.len() < at {
-        return 0;
-    }
-    if room.len() - at < need {
-        return 0;
-    }
-    let p = put_number(room, at, clock, SPACE);
-    room[p] = letter;
-    room[p + 1] = SPACE;
-    let q = put_number(room, p + 2, i as u32, SPACE);
-    let r = put_number(room, q, phase as u32, SPACE);
-    let u = put_number(room, r, slot as u32, SPACE);
-    let w = put_number(room, u, timeout, LF);
-    w - at
 }
 
-// A number in decimal and one byte after it; answers the position past them.
-fn put_number(room: &mut [u8], at: usize, n: u32, after: u8) -> usize
-    requires { at + length (decimal n) < length room.old }
-    ensures { (result ≡ at + length (decimal n) + 1) × (room.new ≡ over room.old at (decimal n ++ (after ∷ []))) }
-{
-    let end = at + width(n);
-    room[end] = after;
-    let mut i = end;
-    let mut rest = n;
-    while rest > 9 {
-        i -= 1;
-        room[i] = (rest % 10) as u8 + 48;
-        rest /= 10;
+impl Pen<'_> {
+    fn text(&mut self, bytes: &[u8])
+        requires { self.old.at + length bytes.now ≤ length self.old.room.now }
+        ensures at { self.new.at ≡ self.old.at + length bytes.now }
+        ensures same_reference { self.new.room.ghost_name ≡ self.old.room.ghost_name }
+        ensures size { length self.new.room.now ≡ length self.old.room.now }
+        ensures room { self.new.room.now ≡ over self.old.room.now self.old.at bytes.now }
+    {
+        let end = self.at + bytes.len();
+        self.room[self.at..end].copy_from_slice(bytes);
+        self.at = end;
     }
-    room[at] = (rest % 10) as u8 + 48;
-    end + 1
+
+    // A number in decimal and one byte after it.
+    fn number(&mut self, n: u32, after: u8)
+        requires { self.old.at + length (decimal n) < length self.old.room.now }
+        ensures at { self.new.at ≡ self.old.at + length (decimal n) + 1 }
+        ensures same_reference { self.new.room.ghost_name ≡ self.old.room.ghost_name }
+        ensures size { length self.new.room.now ≡ length self.old.room.now }
+        ensures room { self.new.room.now ≡ over self.old.room.now self.old.at (decimal n ++ (after ∷ [])) }
+    {
+        let end = self.at + width(n);
+        self.room[end] = after;
+        let mut rest = n;
+        for k in (self.at..end).rev() {
+            self.room[k] = (rest % 10) as u8 + b'0';
+            rest /= 10;
+        }
+        self.at = end + 1;
+    }
 }
 
-// How many digits n has.
+// How many digits n has, ten at most.
+#[tactic(auto, using(crate::proofs::Numbers::width_is))]
 fn width(n: u32) -> usize
-    ensures { (result ≡ length (decimal n)) × (result ≤ n + 1) }
+    ensures { (result ≡ length (decimal n)) × (result ≤ 10) }
 {
-    let mut k: usize = 1;
-    let mut rest = n;
-    while rest > 9 {
-        rest /= 10;
-        k += 1;
-    }
-    k
+    n.checked_ilog10().unwrap_or(0) as usize + 1
 }
 
 // The head place of a number, or a place that is zero where there is none.
+#[tactic(auto, unfolding(rules::specs::State::head_of), using(rules::proofs::Checks::head_at))]
 fn head_at(s: State, i: u8) -> Head
     ensures { result ≡ head_of s.heads i }
 {
-    if i < 1 {
-        return no_head();
-    }
-    if State::MAX_HEADS < i as usize {
-        return no_head();
-    }
-    let k = (i - 1) as usize;
-    s.heads[k]
-}
-
-fn no_head() -> Head
-    ensures { result ≡ no_head }
-{
-    Head {
-        phase: Phase::Init,
-        timeout: 0,
+    if i == 0 {
+        Head::ZERO
+    } else {
+        s.heads.get(i as usize - 1).copied().unwrap_or(Head::ZERO)
     }
 }
 

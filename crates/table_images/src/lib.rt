@@ -26,9 +26,9 @@ const SLOT_AT: usize = 6;
 const PROPAGATION_AT: usize = 8;
 
 // The length of what stands before the wakes, and of a wake.
-const FRONT: usize = 10;
+pub const FRONT: usize = 10;
 
-const WAKE: usize = 4;
+pub const WAKE: usize = 4;
 
 // Writes a table's image into the room: refused with 3 or 12, or the number of bytes.
 pub fn write(t: Table, room: &mut [u8]) -> Result<usize, Refusal>

@@ -1,182 +1,142 @@
--- The pieces of a listing, case by case and in the code's own terms: each return of a function cites one law.
-use mathlib.Core.Path.{◌≡◌, sym, ap, ◌∙◌}
-use mathlib.Core.Bool.{true, false}
-use mathlib.Core.Logic.{◌⊎◌, inl, inr, ⊎_elim}
-use mathlib.Core.List.{List, [], ◌++◌, append_assoc, append-nil}
-use Prim.Native.Nat.{ℕ, suc, ◌+◌, ◌≤◌, ◌<◌}
-use native.Mathlib.Numerals.{add-one}
-use native.Mathlib.Omega.{arith}
-use lib.Dec.{ltb}
-use lib.ListN.{length, get_or, take, drop, length-append, drop_of_length-le}
-use lib.Seq.{take_at, length-take-le, drop-cons}
-use borrow.Author.Tests.{ne_eqb, lt-ltb, le-leb, lt-leb}
+-- The pieces of a listing, in the code's own terms: what the returns and the loop of a function cite.
+use Rattle.std.proofs.Common.{◌≡◌, refl, sym, ap, ◌∙◌, true, false, ◌⊎◌, inl, inr, ⊎_elim, List, [], ◌∷◌, ◌++◌, append_assoc, ℕ, suc, ◌+◌, ◌-◌, ◌≤◌, ◌<◌, add-one, arith, length, get_or, take, drop, length-append, length-drop, take_at, length-take-le, ne_eqb, le-leb, Option, None, Some, Result, Ok, Err, is_err}
+use Rattle.std.proofs.lemmas.Bool.{lt-leb}
+use Rattle.std.proofs.lemmas.Option.{none-some}
 use Rattle.words.specs.declared.Step.{Step}
+use Rattle.words.specs.declared.Refusal.{Refusal}
 use Rattle.words.specs.declared.Refusal.TheVariants.{NoSuchStep}
-use Rattle.words.specs.Refusal.{number_of}
+use Rattle.words.specs.declared.answers.Refused.{Refused}
+use Rattle.words.specs.Refusal.{number_of, verdict_number}
+use Rattle.words.specs.Answer.{Answers, answer_number, answer_record}
 use Rattle.words.specs.Pair.{step_of}
+use Rattle.words.proofs.Order.{number_some}
 use Rattle.rules.specs.declared.State.{State}
 use Rattle.rules.specs.Judge.{refusal, judged}
-use Rattle.rules.proofs.Each.{same_or_not, less_or_not}
-use Rattle.lines.specs.Line.{row_line, step_line, end_line}
-use Rattle.lines.specs.Room.{over, wrote, room_after}
-use Rattle.lines.proofs.Written.{row_long, end_long}
+use Rattle.rules.proofs.Each.{less_or_not, not_both}
+use Rattle.lines.specs.Line.{step_line, end_line, longest_line}
+use Rattle.lines.specs.Room.{over, written, bytes_put, room_after}
+use Rattle.lines.proofs.Written.{Puts}
 use Rattle.walk.specs.declared.Place.{Place}
-use Rattle.walk.specs.declared.Piece.{Piece}
 use Rattle.walk.specs.Listing.{unless_refused, lines_from}
-use Rattle.walk.specs.Pieces.{Stands, longest_line, rest, after, unless_ended, left, Onward}
+use Rattle.walk.specs.Pieces.{Stands, rest}
 
--- ---- a line put behind what is in the room
+-- ---- a line put behind what is in the room, or not
 
--- no line is empty
-row_some : (clock letter i phase slot timeout : ℕ) → 0 < length (row_line clock letter i phase slot timeout)
-row_some clock letter i phase slot timeout = omega (arith, row_long clock letter i phase slot timeout)
-
-step_some : (s : State) (x : Step) → 0 < length (step_line s x)
-unfolding step_line
-step_some s x = row_some _ _ _ _ _ _
-
-end_some : (accepted number : ℕ) → 0 < length (end_line accepted number)
-end_some accepted number = omega (arith, end_long accepted number)
-
--- what a writer of the line v promises: r bytes put into the room l, from position at on, which makes it m
-abbrev Puts : List ℕ → ℕ → List ℕ → ℕ → List ℕ → Type 0
-Puts l at v r m = (r ≡ wrote (length l) at v) × (m ≡ room_after l at v)
-
-module _ (l : List ℕ) (at : ℕ) (v : List ℕ) (r : ℕ) (m : List ℕ) (some : 0 < length v) (w : Puts l at v r m) where
-  none_put : r ≡ 0 → m ≡ l
-  unfolding wrote room_after
-  none_put z = elim (less_or_not (length l) (at + length v)) [
-    | inl h ↦ rw (lt-leb _ _ h) at w.1
-    | inr h ↦ let e : r ≡ length v = rw (le-leb _ _ h) at w.0 in absurd (omega arith)
-  ]
-
-  all_put : (r ≡ 0 → ⊥) → (at + r ≤ length l) × (take (at + r) m ≡ take at l ++ v)
-  unfolding wrote room_after over
-  all_put n = elim (less_or_not (length l) (at + length v)) [
-    | inl h ↦ let e : r ≡ 0 = rw (lt-leb _ _ h) at w.0 in absurd (n e)
+module _ (l : List ℕ) (at : ℕ) (v : List ℕ) (m : List ℕ) where
+  pub some_put : {r : ℕ} → Puts l at v (Some r) m → (at + r ≤ length l) × (take (at + r) m ≡ take at l ++ v)
+  unfolding written room_after over
+  some_put {r} w = elim (less_or_not (length l) (at + length v)) [
+    | inl h ↦ absurd (none-some r (sym (rw (lt-leb _ _ h) at w.0)))
     | inr h ↦
-        let e : r ≡ length v = rw (le-leb _ _ h) at w.0 in
+        let e : r ≡ length v = ap bytes_put (rw (le-leb _ _ h) at w.0) in
         let f : m ≡ over l at v = rw (le-leb _ _ h) at w.1 in
         let k : length (take at l ++ v) ≡ at + r = length-append (take at l) v ∙ omega (arith, length-take-le at l (omega arith)) in
         (omega arith, ap (take (at + r)) f ∙ take_at (take at l ++ v) (drop (at + length v) l) (at + r) k)
   ]
 
-pub put_le : (l : List ℕ) (at : ℕ) (v : List ℕ) (r : ℕ) → at ≤ length l → r ≡ wrote (length l) at v → at + r ≤ length l
-unfolding wrote
-put_le l at v r h e = elim (less_or_not (length l) (at + length v)) [
-  | inl g ↦ let z : r ≡ 0 = rw (lt-leb _ _ g) at e in omega arith
-  | inr g ↦ let z : r ≡ length v = rw (le-leb _ _ g) at e in omega arith
-]
-
--- a line is put where it fits
-put_some : (l : List ℕ) (at : ℕ) (v : List ℕ) (r : ℕ) → 0 < length v → r ≡ wrote (length l) at v → at + length v ≤ length l → 0 < r
-unfolding wrote
-put_some l at v r some e h = let z : r ≡ length v = rw (le-leb _ _ h) at e in omega arith
-
-pub end_whole : (l : List ℕ) (at accepted number r : ℕ) → length (end_line accepted number) ≤ longest_line → r ≡ wrote (length l) at (end_line accepted number) → at + longest_line ≤ length l → ltb 0 r ≡ true
-end_whole l at accepted number r k e h = lt-ltb 0 r (put_some l at (end_line accepted number) r (end_some accepted number) e (omega arith))
-
--- the END line, or nothing of it
-pub end_put : (l : List ℕ) (at accepted number r : ℕ) (m : List ℕ) → Puts l at (end_line accepted number) r m
-    → take (at + r) m ++ unless_ended (ltb 0 r) (end_line accepted number) ≡ take at l ++ end_line accepted number
-unfolding unless_ended
-end_put l at accepted number r m w = elim (same_or_not r 0) [
-  | inl z ↦
-      let e = none_put l at _ r m (end_some accepted number) w z in
-      let k : at + 0 ≡ at = omega arith in
-      rw (z, e, k)
-  | inr n ↦
-      let p = all_put l at _ r m (end_some accepted number) w n in
-      let b : ltb 0 r ≡ true = lt-ltb 0 r (omega arith) in
-      rw (b, p.1) (append-nil _)
-]
+  pub none_put : Puts l at v None m → (m ≡ l) × (length l < at + length v)
+  unfolding written room_after
+  none_put w = elim (less_or_not (length l) (at + length v)) [
+    | inl h ↦ (rw (lt-leb _ _ h) at w.1, h)
+    | inr h ↦ absurd (none-some _ (rw (le-leb _ _ h) at w.0))
+  ]
 
 -- ---- what is left at a place
 
-module _ (p : Place) (l : List ℕ) where
-  pub rest_refused : (p.refusal ≡ 0 → ⊥) → rest p l ≡ end_line p.accepted p.refusal
+module _ (p : Place) where
+  pub rest_refused : is_err p.verdict ≡ true → rest p ≡ end_line p.accepted (verdict_number p.verdict)
   unfolding rest unless_refused
-  rest_refused n = rw (ne_eqb _ _ n)
+  rest_refused e = rw (ne_eqb _ _ (some p.verdict e))
+    where
+      some : {A : Type 0} (v : Result A Refusal) → is_err v ≡ true → verdict_number v ≡ 0 → ⊥
+      some (Ok a) e z = not_both false e refl
+      some (Err x) e z = omega (arith, number_some x)
 
-  module _ (ok : p.refusal ≡ 0) where
-    rest_open : rest p l ≡ lines_from p.table p.state p.accepted (drop p.at l)
-    unfolding rest unless_refused
-    rest_open = rw ok
+  module _ (ok : verdict_number p.verdict ≡ 0) where
+    pub rest_none : length p.pairs.now ≡ 0 → rest p ≡ end_line p.accepted 0
+    unfolding rest unless_refused lines_from
+    rest_none z = rw (ok, none p.pairs.now z)
+      where
+        none : (l : List ℕ) → length l ≡ 0 → l ≡ []
+        none [] z = refl
+        none (a ∷ l) z = absurd (omega arith)
 
-    pub rest_none : length l ≤ p.at → rest p l ≡ end_line p.accepted 0
-    unfolding lines_from
-    rest_none h = rest_open ∙ rw (drop_of_length-le l h)
+    pub rest_lone : 0 < length p.pairs.now → length p.pairs.now < 2 → rest p ≡ end_line p.accepted (number_of NoSuchStep)
+    unfolding rest unless_refused lines_from
+    rest_lone g h = rw (ok, one p.pairs.now g h)
+      where
+        one : (l : List ℕ) → 0 < length l → length l < 2 → l ≡ get_or l 0 0 ∷ []
+        one [] g h = absurd (omega arith)
+        one (a ∷ []) g h = refl
+        one (a ∷ b ∷ l) g h = absurd (omega arith)
 
-    pub rest_lone : p.at < length l → length l ≤ p.at + 1 → rest p l ≡ end_line p.accepted (number_of NoSuchStep)
-    unfolding lines_from
-    rest_lone g h =
-        let e : drop (suc p.at) l ≡ [] = drop_of_length-le l {i = suc p.at} (omega arith) in
-        rest_open ∙ rw (drop-cons l p.at 0 g, e)
+    -- a step, and what judging it answers
+    module _ (h : 2 ≤ length p.pairs.now) (x : Step) (named : x ≡ step_of (get_or p.pairs.now 0 0) (get_or p.pairs.now 1 0))
+        (r : Result State (Refused State)) (answer : Answers r (refusal p.table p.state x) (judged p.table p.state x)) where
+      rest_pair : rest p
+          ≡ unless_refused p.accepted (answer_number r)
+          (step_line (answer_record r) x ++ lines_from p.table (answer_record r) (p.accepted + 1) (drop 2 p.pairs.now))
+      unfolding rest unless_refused lines_from
+      rest_pair = rw (ok, two p.pairs.now h, answer.0, answer.1, named, add-one p.accepted)
+        where
+          two : (l : List ℕ) → 2 ≤ length l → l ≡ get_or l 0 0 ∷ get_or l 1 0 ∷ drop 2 l
+          two [] h = absurd (omega arith)
+          two (a ∷ []) h = absurd (omega arith)
+          two (a ∷ b ∷ l) h = refl
 
-    module _ (h : p.at + 1 < length l) (x : Step) (named : x ≡ step_of (get_or l p.at 0) (get_or l (p.at + 1) 0)) where
-      rest_pair : rest p l
-          ≡ unless_refused p.accepted (refusal p.table p.state x)
-          (step_line (judged p.table p.state x) x ++ lines_from p.table (judged p.table p.state x) (p.accepted + 1) (drop (p.at + 2) l))
-      unfolding lines_from
-      rest_pair =
-          let a : p.at + 1 ≡ suc p.at = add-one p.at in
-          let b : p.at + 2 ≡ suc (suc p.at) = omega arith in
-          let c : p.at < length l = omega arith in
-          let d : suc p.at < length l = omega arith in
-          rest_open ∙ rw (named, a, b, add-one p.accepted, drop-cons l p.at 0 c, drop-cons l (suc p.at) 0 d)
-
-      pub rest_stops : (refusal p.table p.state x ≡ 0 → ⊥) → (n : ℕ) → n ≡ refusal p.table p.state x → rest p l ≡ end_line p.accepted n
+      -- where it is refused the listing ends
+      pub rest_stops : (why : Refused State) → r ≡ Err why → rest p ≡ end_line p.accepted (number_of why.why)
       unfolding unless_refused
-      rest_stops z n e = rest_pair ∙ rw (ne_eqb _ _ z, e)
+      rest_stops why z =
+          let n : number_of why.why ≡ 0 → ⊥ = λ (q : number_of why.why ≡ 0). omega (arith, q, number_some why.why) in
+          rest_pair ∙ rw (z, ne_eqb _ _ n)
 
-      rest_goes : refusal p.table p.state x ≡ 0 → (u : State) → u ≡ judged p.table p.state x → rest p l ≡ step_line u x ++ rest (after p u) l
+      -- otherwise its line stands before the rest from the place after it
+      rest_goes : (u : State) → r ≡ Ok u → (q : Place) → q.table ≡ p.table → verdict_number q.verdict ≡ 0 → q.state ≡ u → q.accepted ≡ p.accepted + 1 → q.pairs.now ≡ drop 2 p.pairs.now
+          → rest p ≡ step_line u x ++ rest q
       unfolding unless_refused rest
-      rest_goes z u e = rest_pair ∙ rw (z, ok, ← e)
-
-      -- a step's line in the room, and the place after it
-      pub goes_on : (room : List ℕ) (used : ℕ) (o : List ℕ) → take used room ++ rest p l ≡ o → refusal p.table p.state x ≡ 0
-          → (u : State) → u ≡ judged p.table p.state x → (r : ℕ) (m : List ℕ) → Puts room used (step_line u x) r m → (r ≡ 0 → ⊥)
-          → (q : Place) → q ≡ after p u → take (used + r) m ++ rest q l ≡ o
-      goes_on room used o before z u e r m w n q f =
-          let a = all_put room used (step_line u x) r m (step_some u x) w n in
-          let b = rest_goes z u e in
-          rw (f, a.1) (append_assoc (take used room) (step_line u x) (rest (after p u) l)) ∙ ap (λ (y : List ℕ). take used room ++ y) (sym b) ∙ before
-
--- one step further in the input
-pub moves_on : (p : Place) (l : List ℕ) (u : State) (q : Place) → Stands p l → p.at + 1 < length l → q ≡ after p u → Stands q l
-moves_on p l u q g h e = rw e (record { size = g.size; within = omega (arith, g.within); steps = omega (arith, g.steps) })
+      rest_goes u z q t v s k f = rest_pair ∙ rw (z, t, v, s, k, f)
 
 -- ---- a piece
 
--- what a piece from position at on must be: in the room m, with the listing o from its first byte on
-abbrev Is : ℕ → Piece → List ℕ → List ℕ → List ℕ → Type 0
-Is at r m l o = (r.bytes ≤ length m) × Stands r.place l × (take r.bytes m ++ left r l ≡ o) × Onward at r
+-- the room's first bytes, so many, are the listing from a place on up to another; they are some once a pair is passed, none before
+pub record Going (from p : Place) (used : ℕ) (room : List ℕ) : Type 0 where
+  pub fits : used ≤ length room
+  pub long : longest_line ≤ length room
+  pub judged : verdict_number p.verdict ≡ 0
+  pub stands : Stands p
+  pub so_far : take used room ++ rest p ≡ rest from
+  pub passed : (length p.pairs.now < length from.pairs.now) ⊎ ((length p.pairs.now ≡ length from.pairs.now) × (used ≡ 0))
 
--- so many bytes are used once position at is passed, none before
-abbrev pub Used : ℕ → ℕ → ℕ → Type 0
-Used from at used = (from < at) ⊎ ((from ≡ at) × (used ≡ 0))
+-- a step's line is put, and the place after it comes next
+pub goes_on : (from p : Place) (used : ℕ) (room : List ℕ) → Going from p used room → 2 ≤ length p.pairs.now
+    → (x : Step) → x ≡ step_of (get_or p.pairs.now 0 0) (get_or p.pairs.now 1 0)
+    → (a : Result State (Refused State)) → Answers a (refusal p.table p.state x) (judged p.table p.state x) → (u : State) → a ≡ Ok u
+    → (r : ℕ) (m : List ℕ) → Puts room used (step_line u x) (Some r) m → length m ≡ length room
+    → (q : Place) → q.table ≡ p.table → q.verdict ≡ p.verdict → q.state ≡ u → q.accepted ≡ p.accepted + 1 → q.pairs.now ≡ drop 2 p.pairs.now
+    → Going from q (used + r) m
+goes_on from p used room g two x named a answer u z r m w k q t v s n f =
+    let b = some_put room used (step_line u x) m w in
+    let ok : verdict_number q.verdict ≡ 0 = ap verdict_number v ∙ g.judged in
+    let c = rest_goes p g.judged two x named a answer u z q t ok s n f in
+    let d : length q.pairs.now ≡ length p.pairs.now - 2 = ap length f ∙ length-drop 2 p.pairs.now in
+    record {
+      fits = omega (arith, b.0, k);
+      long = omega (arith, g.long, k);
+      judged = ok;
+      stands = omega (arith, g.stands, d, n);
+      so_far = rw b.1 (append_assoc (take used room) (step_line u x) (rest q)) ∙ ap (λ (y : List ℕ). take used room ++ y) (sym c) ∙ g.so_far;
+      passed = inl (⊎_elim (λ h. omega (arith, h, d)) (λ h. omega (arith, h.0, d)) g.passed);
+    }
 
-pub used_more : (from at used more : ℕ) → Used from at used → (to : ℕ) → to ≡ at + 2 → Used from to more
-used_more from at used more w to e = ⊎_elim (λ h. inl (omega arith)) (λ h. inl (omega (arith, h.0))) w
+-- a step's line waits for the next piece, and so is not the first of this one
+pub waits : (from p : Place) (used : ℕ) (room : List ℕ) → Going from p used room → (v m : List ℕ) → Puts room used v None m
+    → (used ≤ length m) × (take used m ++ rest p ≡ rest from) × (Stands p × (length p.pairs.now < length from.pairs.now))
+waits from p used room g v m w =
+    let n = none_put room used v m w in
+    rw n.0 (g.fits, g.so_far, (g.stands, ⊎_elim (λ h. h) (λ h. absurd (omega (arith, h.1, n.1, w.2, g.long))) g.passed))
 
--- the END line is next
-pub ends : (room : List ℕ) (from used : ℕ) (p : Place) (l : List ℕ) (number : ℕ) (r : Piece) (m o : List ℕ) → longest_line ≤ length room → Used from p.at used → Stands p l
-    → take used room ++ rest p l ≡ o → rest p l ≡ end_line p.accepted number
-    → (r.bytes ≤ length m) × (r.place ≡ p) × (take r.bytes m ++ unless_ended r.ended (end_line p.accepted number) ≡ take used room ++ end_line p.accepted number)
-    × (used + longest_line ≤ length room → r.ended ≡ true)
-    → Is from r m l o
-ends room from used p l number r m o long u g before e w = (
-  w.0,
-  rw w.1 g,
-  rw (w.1, e) (w.2 ∙ ap (λ (y : List ℕ). take used room ++ y) (sym e) ∙ before),
-  ⊎_elim (λ h. inr (rw w.1 h)) (λ h. inl (w.3 (omega (arith, h.1)))) u,
-)
-
--- the next line does not fit
-pub waits : (room : List ℕ) (from used : ℕ) (p : Place) (l o : List ℕ) → longest_line ≤ length room → Used from p.at used → Stands p l → take used room ++ rest p l ≡ o → used ≤ length room
-    → (s : State) (x : Step) → length (step_line s x) ≤ longest_line → (r : ℕ) (m : List ℕ) → Puts room used (step_line s x) r m → r ≡ 0
-    → Is from (record { bytes = used; place = p; ended = false }) m l o
-unfolding unless_ended
-waits room from used p l o long u g before h s x k r m w z =
-    let e = none_put room used (step_line s x) r m (step_some s x) w z in
-    rw e (h, g, before, ⊎_elim (λ q. inr q) (λ q. absurd (omega (arith, z, put_some room used (step_line s x) r (step_some s x) w.0 (omega (arith, q.1))))) u)
+-- how many pairs may follow a piece
+abbrev pub left_pairs : Option Place → ℕ
+left_pairs None = 0
+left_pairs (Some p) = suc (length p.pairs.now)

@@ -1,4 +1,3 @@
-pub mod Opens
-pub mod Widths
 pub mod Lays
+pub mod Opens
 pub mod Worked

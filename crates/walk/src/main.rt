@@ -1,43 +1,42 @@
 // The program `walk` of document 01: a table image and step pairs on standard input, the listing on standard output. What a
 // listing is, is said in specs/; opening reads the input's table part, pieces makes the listing's bytes, and only this file reads
-// and writes. It judges nothing itself: it uses words, rules, judge, table_images and lines, octets and hearers in its
-// proofs, and io for the two channels.
+// and writes. It judges nothing itself: it uses words, rules, judge, table_images, octets and lines, hearers in its proofs, and io
+// for the two channels.
 #![tactic(auto)]
 
 mod opening;
 mod pieces;
 
 ghost use Rattle.std.specs.Prelude.{◌≤◌, length};
+ghost use Rattle.lines.specs.Line.{longest_line};
 ghost use Rattle.walk.specs.Listing.{input_most};
-ghost use Rattle.walk.specs.Pieces.{longest_line};
 
 use opening::start;
 use pieces::fill;
 use rules::{State, Table};
+use words::Verdict;
 
 // The two channels, by their numbers.
 const STDIN: i32 = 0;
 
 const STDOUT: i32 = 1;
 
-// Where a listing stands, before a step or its END line: the table and the state, the table's refusal or 0, the steps accepted so
-// far, and where in the input the next pair begins. The rest of the listing follows from it and the input.
+// Where a listing stands, before a step or its END line: the table and the verdict on it, the state, the steps accepted so far, and
+// the pairs that follow. The rest of the listing follows from it.
 #[derive(Clone, Copy)]
-pub struct Place {
+pub struct Place<'a> {
     pub table: Table,
+    pub verdict: Verdict,
     pub state: State,
-    pub refusal: u8,
     pub accepted: u32,
-    pub at: usize,
+    pub pairs: &'a [u8],
 }
 
-// A piece of the listing: how many bytes it has in the room, the place after it, and whether it holds the END line, after which
-// nothing follows.
+// A piece of the listing: how many bytes it has in the room, and the place after it, None where it holds the END line.
 #[derive(Clone, Copy)]
-pub struct Piece {
+pub struct Piece<'a> {
     pub bytes: usize,
-    pub place: Place,
-    pub ended: bool,
+    pub next: Option<Place<'a>>,
 }
 
 fn main() {
@@ -51,17 +50,12 @@ fn main() {
 fn print(input: &[u8], room: &mut [u8])
     requires { (length input.now ≤ input_most) × (longest_line ≤ length room.old) }
 {
-    let mut here = start(input);
-    loop {
-        let piece = fill(room, input, here);
-        let bytes = piece.bytes;
-        if !io::write_all(STDOUT, &room[..bytes]) {
+    let mut next = Some(start(input));
+    while let Some(here) = next {
+        let piece = fill(room, here);
+        if !io::write_all(STDOUT, &room[..piece.bytes]) {
             return;
         }
-        if piece.ended {
-            return;
-        }
-        let next = piece.place;
-        here = next;
+        next = piece.next;
     }
 }

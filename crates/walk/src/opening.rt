@@ -1,61 +1,59 @@
 // The start of a listing: the table part of the input, and the place before the first step.
-ghost use Rattle.std.specs.Prelude.{◌≡◌, ◌≤◌, length};
+ghost use Rattle.std.specs.Prelude.{◌≡◌, ◌+◌, ◌≤◌, length};
+ghost use Rattle.words.specs.Refusal.{verdict_number};
+ghost use Rattle.table_images.specs.TableImage.{read_table_refusal, read_table};
 ghost use Rattle.walk.specs.Listing.{asked_length, table_part, listing};
 ghost use Rattle.walk.specs.Pieces.{rest};
 
 use crate::Place;
-use rules::State;
-
-// Where N stands in a table image, the length of what stands before the wakes, and of a wake.
-const COUNT_AT: usize = 5;
-
-const FRONT: usize = 10;
-
-const WAKE: usize = 4;
+use octets::COUNT_AT;
+use rules::{State, Table};
+use table_images::{FRONT, WAKE};
+use words::Verdict;
 
 // The place before the first step, in the fresh state; after a refused table only the END line is left.
-pub fn start(input: &[u8]) -> Place
-    ensures { (rest result input.now ≡ listing input.now) × (result.at ≤ length input.now) × (result.accepted ≡ 0) }
+pub fn start(input: &[u8]) -> Place<'_>
+    ensures rest { rest result ≡ listing input.now }
+    ensures steps { result.accepted + length result.pairs.now ≤ length input.now }
 {
-    let part = table_part(input);
-    let read = table_images::read(&input[..part]);
-    let v = read.verdict;
-    let t = read.table;
-    let fresh = State::fresh(t);
-    let s = fresh.state;
+    let (image, pairs) = input.split_at(table_part(input));
+    let (table, verdict) = read(image);
     Place {
-        table: t,
-        state: s,
-        refusal: v.number(),
+        table,
+        verdict,
+        state: State::fresh_fit(table),
         accepted: 0,
-        at: part,
+        pairs,
+    }
+}
+
+// The table that an image is read as, and the verdict on it.
+fn read(image: &[u8]) -> (Table, Verdict)
+    ensures table { result.0 ≡ read_table image.now }
+    ensures verdict { verdict_number result.1 ≡ read_table_refusal image.now }
+{
+    match table_images::read(image) {
+        Ok(table) => (table, Ok(())),
+        Err(refused) => (refused.back, Err(refused.why)),
     }
 }
 
 // How many bytes of the input are its table part.
+#[tactic(auto, unfolding(crate::specs::Listing::table_part))]
 fn table_part(input: &[u8]) -> usize
-    ensures { result ≡ table_part input.now }
+    ensures value { result ≡ table_part input.now }
+    ensures within { result ≤ length input.now }
 {
-    let asked = asked_length(input);
-    if input.len() < asked {
-        return input.len();
-    }
-    asked
+    asked_length(input).min(input.len())
 }
 
+#[tactic(auto, unfolding(crate::specs::Listing::asked_length))]
 // The length of a table image with the head count that stands in the input, or of its front where that is no head count.
 fn asked_length(input: &[u8]) -> usize
     ensures { result ≡ asked_length input.now }
 {
-    if input.len() <= COUNT_AT {
-        return FRONT;
+    match input.get(COUNT_AT) {
+        Some(&n) if 1 <= n && n as usize <= State::MAX_HEADS => FRONT + WAKE * n as usize,
+        _ => FRONT,
     }
-    let n = input[COUNT_AT] as usize;
-    if n < 1 {
-        return FRONT;
-    }
-    if State::MAX_HEADS < n {
-        return FRONT;
-    }
-    FRONT + WAKE * n
 }

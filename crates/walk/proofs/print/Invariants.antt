@@ -1,11 +1,11 @@
-use mathlib.Core.Path.{◌≡◌}
-use Prim.Native.Nat.{◌-◌, ◌≤◌}
-use lib.ListN.{length}
-use Rattle.walk.specs.Pieces.{Stands, longest_line}
+use Rattle.std.proofs.Common.{◌≤◌, length, IfSome}
+use Rattle.lines.specs.Line.{longest_line}
+use Rattle.walk.specs.Pieces.{Stands}
+use Rattle.walk.proofs.Lays.{left_pairs}
 use Rattle.walk.proofs.print.Given as goal
 
-abbrev pub invariant-loop-piece : goal.invariant-loop-piece
-invariant-loop-piece l = (length l.room ≡ length l.initial.room) × (longest_line ≤ length l.room) × Stands l.here l.input
+abbrev pub invariant-loop-next : goal.invariant-loop-next
+invariant-loop-next l = (longest_line ≤ length l.room) × IfSome l.next Stands
 
-abbrev pub decreases-loop-piece : goal.decreases-loop-piece
-decreases-loop-piece l = length l.input - l.here.at
+abbrev pub decreases-loop-next : goal.decreases-loop-next
+decreases-loop-next l = left_pairs l.next

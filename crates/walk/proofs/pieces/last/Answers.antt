@@ -1,20 +1,18 @@
-use mathlib.Core.Path.{refl}
-use native.Mathlib.Omega.{arith}
-use Rattle.walk.proofs.Widths.{end_fits}
-use Rattle.walk.proofs.Lays.{put_le, end_whole, end_put}
-use borrow.Author.Rules.{rules}
+use Rattle.std.proofs.Common.{◌∙◌, arith, append-nil}
+use Rattle.walk.proofs.Lays.{some_put, none_put}
 use Rattle.walk.proofs.pieces.last.Goals as goal
 
 pub overflow_add-result : goal.overflow_add-result
-overflow_add-result c = let a = c.args in omega (arith, put_le a.room.now a.used _ _ (c.requires) c.put_end-put.ensures.0)
+overflow_add-result c = omega (arith, (some_put _ _ _ _ c.in-Some.ensures).0)
 
-pub shape_of-room : goal.shape_of-room
-shape_of-room c = c.put_end-put.auto.room
+pub returns-in-Some-clause-bytes : goal.returns-in-Some-clause-bytes
+returns-in-Some-clause-bytes c = omega (arith, (some_put _ _ _ _ c.in-Some.ensures).0, c.put_end.auto.room)
 
-pub returns : goal.returns
-returns c = let a = c.args in (
-  omega (arith, put_le a.room.now a.used _ _ (c.requires) c.put_end-put.ensures.0, c.put_end-put.auto.room),
-  refl,
-  end_put a.room.now a.used _ _ _ _ c.put_end-put.ensures,
-  λ h. end_whole a.room.now a.used _ _ _ (end_fits _ _ (search rules) (search rules)) c.put_end-put.ensures.0 h,
-)
+pub returns-in-Some-clause-rest : goal.returns-in-Some-clause-rest
+returns-in-Some-clause-rest c = append-nil _ ∙ (some_put _ _ _ _ c.in-Some.ensures).1 ∙ rw (c.verdict_number.ensures, c.requires.last)
+
+pub returns-in-None-clause-rest : goal.returns-in-None-clause-rest
+returns-in-None-clause-rest c = rw (none_put _ _ _ _ c.in-None.ensures).0
+
+pub returns-in-None-clause-ends : goal.returns-in-None-clause-ends
+returns-in-None-clause-ends c = λ h. absurd (omega (arith, h, (none_put _ _ _ _ c.in-None.ensures).1, c.put_end.ensures.2))
