@@ -1,11 +1,10 @@
--- Fields one after the other, the parts of the heads, and the places that hold what is read: what one turn of a loop adds.
-use Rattle.std.proofs.Common.{◌≡◌, refl, sym, ap, List, [], ◌∷◌, ◌++◌, ℕ, zero, suc, ◌+◌, ◌*◌, ◌/◌, ◌≤◌, add-zero, mul-zero, add-one, arith, length, drop, set, replicate}
+-- Fields one after the other and the parts of the heads: what one turn of a loop adds.
+use Rattle.std.proofs.Common.{◌≡◌, refl, sym, ap, List, [], ◌∷◌, ◌++◌, ℕ, zero, suc, ◌+◌, ◌*◌, ◌/◌, ◌≤◌, add-zero, mul-zero, add-one, arith, length, drop, set}
 use Rattle.std.proofs.Math.Seq.{sets, sets-eq}
 use Rattle.std.proofs.lemmas.Grind.{common_steps}
-use Rattle.rules.specs.Limits.{max_heads}
 use Rattle.octets.specs.Bytes.{bytes_of}
 use Rattle.octets.specs.Room.{stored}
-use Rattle.octets.specs.Fields.{joined, places}
+use Rattle.octets.specs.Fields.{joined}
 
 -- ---- what is stored
 
@@ -43,16 +42,3 @@ pub joined_more : (l m r : List ℕ) (front each k : ℕ) (f : ℕ → List ℕ)
     → r ≡ stored l front (joined (k + 1) f)
 unfolding joined
 joined_more l m r front each k f v long p q e = rw add-one (grind (arith, common_steps, joined_long each f long k, stored_append l front (joined k f) (f (suc k))))
-
--- ---- the places
-
-pub places_none : {A : Type 0} (d : A) (f : ℕ → A) → replicate max_heads d ≡ places d f 0
-unfolding places
-places_none d f = refl
-
-pub places_more : {A : Type 0} (d : A) (f : ℕ → A) (k : ℕ) (w : List A) (x : A) → w ≡ places d f k → x ≡ f (suc k) → set w k x ≡ places d f (k + 1)
-unfolding places
-places_more d f k w x e g = rw (add-one, e, g)
-
-pub done : {A : Type 0} (f : ℕ → A) (n k : ℕ) (x : A) → k ≤ n → n ≤ k → x ≡ f k → x ≡ f n
-done f n k x a b e = let q : k ≡ n = omega arith in rw q at e

@@ -36,8 +36,7 @@ wrote_unfit why unfit image room e =
     let w = wrote_none (write_refusal unfit image room) image room (λ z. omega (arith, number_some why)) in
     (u, w.0, w.1)
 
-pub wrote_short : (unfit : ℕ) (image room : List ℕ) → unfit ≡ 0 → length room < length image
-    → (number_of ShortRoom ≡ write_refusal unfit image room) × (0 ≡ bytes_written (write_refusal unfit image room) image) × (room ≡ room_after (write_refusal unfit image room) image room)
+pub wrote_short : (unfit : ℕ) (image room : List ℕ) → unfit ≡ 0 → length room < length image → Wrote (Err ShortRoom) unfit image room room
 wrote_short unfit image room e h =
     let u = write_short unfit image room e h in
     let w = wrote_none (write_refusal unfit image room) image room (λ (z : write_refusal unfit image room ≡ 0). omega arith) in

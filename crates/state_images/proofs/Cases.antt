@@ -1,12 +1,6 @@
 -- The state reader and writer, case by case and in the code's own terms: each return of a function cites one law.
-use mathlib.Core.Path.{◌≡◌, refl, sym, ap, ◌∙◌}
-use mathlib.Core.Bool.{true, false}
-use mathlib.Core.List.{List}
-use Prim.Native.Nat.{ℕ, suc, ◌≤◌, ◌<◌}
-use native.Mathlib.Omega.{arith}
-use lib.ListN.{length, get_or, take, length-append}
+use Rattle.std.proofs.Common.{◌≡◌, refl, sym, ap, ◌∙◌, true, false, List, ℕ, suc, ◌≤◌, ◌<◌, arith, length, get_or, take, length-append, eq-eqb}
 use Rattle.std.proofs.lemmas.List.{get_or-take}
-use borrow.Author.Tests.{eq-eqb}
 use Rattle.words.specs.declared.Refusal.{Refusal}
 use Rattle.words.specs.declared.Refusal.TheVariants.{TableRange}
 use Rattle.words.specs.Refusal.{number_of, unless, first_refusal}

@@ -1,14 +1,5 @@
 -- A state and its image, against a table: a fitting state's image reads as that state, and whatever bytes read as a state are that state's image.
-use mathlib.Core.Path.{◌≡◌, refl, sym, ap, ap₂, ◌∙◌}
-use mathlib.Core.Bool.{Bool, true, ◌&&◌}
-use mathlib.Core.Logic.{inl, inr}
-use mathlib.Core.List.{List, [], ◌∷◌}
-use Prim.Native.Nat.{ℕ, zero, suc, ◌+◌, ◌*◌, ◌^◌, ◌≤◌, ◌<◌}
-use native.Mathlib.Omega.{arith}
-use lib.Dec.{eqb, leb}
-use lib.ListN.{length, take, drop}
-use lib.Pow.{pow_mono}
-use borrow.Author.Tests.{eqb-true, leb-true}
+use Rattle.std.proofs.Common.{◌≡◌, refl, sym, ap, ap₂, ◌∙◌, Bool, true, ◌&&◌, inl, inr, List, [], ◌∷◌, ℕ, zero, suc, ◌+◌, ◌*◌, ◌^◌, ◌≤◌, ◌<◌, arith, eqb, leb, length, take, drop, eqb-true, leb-true, pow_mono}
 use Rattle.hearers.proofs.Laws.{none_above}
 use Rattle.words.specs.declared.Refusal.TheVariants.{StateLength, StateMark, StateRule}
 use Rattle.words.specs.Refusal.{unless}

@@ -1,7 +1,5 @@
 -- Document 01's own example: "Table E: N 2, S 10, P 2, wakes 3 and 5. Its bytes `48 54 42 01 00 02 0A 00 02 00 03 00 00 00 05 00 00 00`".
-use mathlib.Core.Path.{◌≡◌, refl}
-use mathlib.Core.List.{[], ◌∷◌}
-use lib.ListN.{replicate}
+use Rattle.std.proofs.Common.{◌≡◌, refl, [], ◌∷◌, replicate}
 use Rattle.rules.specs.declared.Table.{Table}
 use Rattle.rules.specs.Table.{wake_of}
 use Rattle.octets.specs.Bytes.{bytes_of}

@@ -1,12 +1,5 @@
 -- A table and its image: a fitting table's image reads as that table, and whatever bytes read as a table are that table's image.
-use mathlib.Core.Path.{◌≡◌, refl, sym, ap, ◌∙◌}
-use mathlib.Core.Bool.{true}
-use mathlib.Core.List.{List, [], ◌∷◌}
-use Prim.Native.Nat.{ℕ, suc, ◌+◌, ◌*◌, ◌≤◌, ◌<◌}
-use native.Mathlib.Omega.{arith}
-use lib.Dec.{eqb, leb}
-use lib.ListN.{length, take, drop}
-use borrow.Author.Tests.{eqb-true, leb-true}
+use Rattle.std.proofs.Common.{◌≡◌, refl, sym, ap, ◌∙◌, true, List, [], ◌∷◌, ℕ, suc, ◌+◌, ◌*◌, ◌≤◌, ◌<◌, arith, eqb, leb, length, take, drop, eqb-true, leb-true}
 use Rattle.words.specs.declared.Refusal.TheVariants.{TableLength, TableMark, TableRange}
 use Rattle.words.specs.Refusal.{unless}
 use Rattle.words.proofs.Order.{unless_is, first_is}
