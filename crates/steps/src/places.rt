@@ -21,5 +21,9 @@ pub fn place(i: u8) -> usize
 pub fn timeouts(s: State) -> [u32; State::MAX_HEADS]
     ensures { result ≡ timeouts s.heads }
 {
-    s.heads.map(|head| head.timeout)
+    let mut all = [0; State::MAX_HEADS];
+    for (k, head) in s.heads.iter().enumerate() {
+        all[k] = head.timeout;
+    }
+    all
 }
