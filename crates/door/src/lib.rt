@@ -3,29 +3,32 @@
 // header vapourtrack.h tells a caller the rest. It uses words, rules, table_images, state_images, steps and runs; its proofs use octets.
 #![tactic(auto)]
 
-ghost use Rattle.std.specs.Prelude.{◌≡◌, ◌≤◌};
+ghost use Rattle.std.specs.Prelude.{◌≡◌, ◌≤◌, true, IfOk};
 ghost use Rattle.words.specs.Refusal.{verdict_number};
 ghost use Rattle.rules.specs.Limits.{max_heads};
-ghost use Rattle.rules.specs.State.{fresh};
+ghost use Rattle.rules.specs.Room.{Wrote, bytes_of};
+ghost use Rattle.rules.specs.State.{fresh, state_fits};
+ghost use Rattle.rules.specs.Table.{table_fits};
 ghost use Rattle.table_images.specs.TableImage.{read_table_refusal, read_table};
 ghost use Rattle.state_images.specs.StateImage.{state_image};
 ghost use Rattle.runs.specs.Listing.{list_image};
 ghost use Rattle.runs.specs.Run.{told};
 ghost use Rattle.door.specs.Answers.{answer, state_of, open_refusal, judge_refusal, judged_state, given_outcome, policy_outcome, Handed, Played};
 
-use rules::{State, Table, Written};
+use rules::{State, Table};
 use runs::Ran;
-use words::{Step, Verdict};
+use words::{Refusal, Step};
 
 // 2^56: what is left of sixty-four bits above the refusal number's byte.
-const COUNT_PLACES: u64 = 72057594037927936;
+const COUNT_PLACES: u64 = 1 << 56;
 
 // What the two images of a call hold.
 #[derive(Clone, Copy)]
 struct Opened {
-    verdict: Verdict,
     table: Table,
     state: State,
+    ghost table_fits: { table_fits table ≡ true },
+    ghost state_fits: { state_fits table state ≡ true },
 }
 
 // The fresh state of a table.
@@ -33,15 +36,7 @@ struct Opened {
 pub extern "C" fn vt_fresh(table: &[u8], room: &mut [u8]) -> u64
     ensures { Handed result (read_table_refusal table.now) (state_image (fresh (read_table table.now))) room.old room.new }
 {
-    let got = table_images::read(table);
-    let v = got.verdict;
-    let Verdict::Accepted = v else {
-        return answer(v, 0);
-    };
-    let t = got.table;
-    let s = State::fresh_fit(t);
-    let w = state_images::write_fit(s, room);
-    wrote(w)
+    wrote(fresh(table, room))
 }
 
 // A proposed step, judged.
@@ -49,21 +44,7 @@ pub extern "C" fn vt_fresh(table: &[u8], room: &mut [u8]) -> u64
 pub extern "C" fn vt_judge(table: &[u8], state: &[u8], kind: u8, head: u8, room: &mut [u8]) -> u64
     ensures { Handed result (judge_refusal table.now state.now kind head) (state_image (judged_state table.now state.now kind head)) room.old room.new }
 {
-    let o = read_both(table, state);
-    let v = o.verdict;
-    let Verdict::Accepted = v else {
-        return answer(v, 0);
-    };
-    let t = o.table;
-    let s = o.state;
-    let j = steps::attempt(t, s, Step::read(kind, head));
-    let x = j.verdict;
-    let Verdict::Accepted = x else {
-        return answer(x, 0);
-    };
-    let u = j.state;
-    let w = state_images::write_fit(u, room);
-    wrote(w)
+    wrote(judge(table, state, kind, head, room))
 }
 
 // The steps that are accepted now.
@@ -71,15 +52,7 @@ pub extern "C" fn vt_judge(table: &[u8], state: &[u8], kind: u8, head: u8, room:
 pub extern "C" fn vt_list(table: &[u8], state: &[u8], room: &mut [u8]) -> u64
     ensures { Handed result (open_refusal table.now state.now) (list_image (read_table table.now) (state_of table.now state.now)) room.old room.new }
 {
-    let o = read_both(table, state);
-    let v = o.verdict;
-    let Verdict::Accepted = v else {
-        return answer(v, 0);
-    };
-    let t = o.table;
-    let s = o.state;
-    let w = runs::open_steps_fit(t, s, room);
-    wrote(w)
+    wrote(list(table, state, room))
 }
 
 // A run of given steps.
@@ -87,15 +60,10 @@ pub extern "C" fn vt_list(table: &[u8], state: &[u8], room: &mut [u8]) -> u64
 pub extern "C" fn vt_given(table: &[u8], state: &[u8], pairs: &[u8], room: &mut [u8]) -> u64
     ensures { Played result (given_outcome table.now state.now pairs.now) room.old room.new }
 {
-    let o = read_both(table, state);
-    let v = o.verdict;
-    let Verdict::Accepted = v else {
-        return answer(v, 0);
-    };
-    let t = o.table;
-    let s = o.state;
-    let ran = runs::run_given_fit(t, s, pairs);
-    played(ran, room)
+    match read_both(table, state) {
+        Ok(both) => played(runs::run_given_fit(both.table, both.state, pairs), room),
+        Err(why) => answer(Err(why), 0),
+    }
 }
 
 // A run by the fixed policy.
@@ -103,68 +71,76 @@ pub extern "C" fn vt_given(table: &[u8], state: &[u8], pairs: &[u8], room: &mut 
 pub extern "C" fn vt_policy(table: &[u8], state: &[u8], count: usize, room: &mut [u8]) -> u64
     ensures { Played result (policy_outcome table.now state.now count) room.old room.new }
 {
-    let o = read_both(table, state);
-    let v = o.verdict;
-    let Verdict::Accepted = v else {
-        return answer(v, 0);
-    };
-    let t = o.table;
-    let s = o.state;
-    let ran = runs::run_policy_fit(t, s, count);
-    played(ran, room)
-}
-
-// The table and the state of two images, or the number that refuses one of them.
-fn read_both(table: &[u8], state: &[u8]) -> Opened
-    ensures { (verdict_number result.verdict ≡ open_refusal table.now state.now) × (result.table ≡ read_table table.now) × (result.state ≡ state_of table.now state.now) }
-{
-    let got = table_images::read(table);
-    let v = got.verdict;
-    let t = got.table;
-    let Verdict::Accepted = v else {
-        let none = State::blank();
-        return Opened {
-            verdict: v,
-            table: t,
-            state: none,
-        };
-    };
-    let j = state_images::read_fit(t, state);
-    let w = j.verdict;
-    let s = j.state;
-    Opened {
-        verdict: w,
-        table: t,
-        state: s,
+    match read_both(table, state) {
+        Ok(both) => played(runs::run_policy_fit(both.table, both.state, count), room),
+        Err(why) => answer(Err(why), 0),
     }
 }
 
-// The state that a run came to, written where nothing stopped it.
+fn fresh(table: &[u8], room: &mut [u8]) -> Result<usize, Refusal>
+    ensures { Wrote result (read_table_refusal table.now) (state_image (fresh (read_table table.now))) room.old room.new }
+{
+    let t = table_images::read(table)?;
+    state_images::write_fit(State::fresh_fit(t), room)
+}
+
+fn judge(table: &[u8], state: &[u8], kind: u8, head: u8, room: &mut [u8]) -> Result<usize, Refusal>
+    ensures { Wrote result (judge_refusal table.now state.now kind head) (state_image (judged_state table.now state.now kind head)) room.old room.new }
+{
+    let both = read_both(table, state)?;
+    let next = steps::attempt(both.table, both.state, Step::read(kind, head))?;
+    state_images::write_fit(next, room)
+}
+
+fn list(table: &[u8], state: &[u8], room: &mut [u8]) -> Result<usize, Refusal>
+    ensures { Wrote result (open_refusal table.now state.now) (list_image (read_table table.now) (state_of table.now state.now)) room.old room.new }
+{
+    let both = read_both(table, state)?;
+    runs::open_steps_fit(both.table, both.state, room)
+}
+
+// The table and the state of two images, or the refusal of one of them.
+fn read_both(table: &[u8], state: &[u8]) -> Result<Opened, Refusal>
+    ensures number { verdict_number result ≡ open_refusal table.now state.now }
+    ensures records { IfOk result (λ both. (both.table ≡ read_table table.now) × (both.state ≡ state_of table.now state.now)) }
+{
+    let t = table_images::read(table)?;
+    let s = state_images::read_fit(t, state)?;
+    Ok(Opened { table: t, state: s })
+}
+
+// A run's answer: it counts the steps accepted, whatever the number.
 fn played(ran: Ran, room: &mut [u8]) -> u64
     requires { ran.state.n ≤ max_heads }
     ensures { Played result (told ran) room.old room.new }
 {
-    let v = ran.verdict;
-    let Verdict::Accepted = v else {
-        return answer(v, ran.accepted);
-    };
-    let s = ran.state;
-    let w = state_images::write_fit(s, room);
-    let x = w.verdict;
-    answer(x, ran.accepted)
+    answer(stored(ran, room), ran.accepted)
 }
 
-// A writer's two results as one number.
-fn wrote(w: Written) -> u64
-    ensures { result ≡ answer (verdict_number w.verdict) w.bytes }
+// The state that a run came to, written where nothing stopped it.
+fn stored(ran: Ran, room: &mut [u8]) -> Result<usize, Refusal>
+    requires { ran.state.n ≤ max_heads }
+    ensures { Wrote result (verdict_number ran.verdict) (state_image ran.state) room.old room.new }
 {
-    let v = w.verdict;
-    answer(v, w.bytes)
+    ran.verdict?;
+    state_images::write_fit(ran.state, room)
+}
+
+// A writer's answer: it counts the bytes written.
+fn wrote(w: Result<usize, Refusal>) -> u64
+    ensures { result ≡ answer (verdict_number w) (bytes_of w) }
+{
+    answer(w, w.unwrap_or(0))
 }
 
 // A refusal number and a count as one number.
-fn answer(v: Verdict, count: usize) -> u64
-    ensures { result ≡ answer (verdict_number v) count }
+#[tactic(auto, unfolding(crate::specs::Answers::answer))]
+fn answer(w: Result<usize, Refusal>, count: usize) -> u64
+    ensures { result ≡ answer (verdict_number w) count }
 {
-    v.number() as u64 + 256 * (count as u64 % COUNT_PLACES)
+    let number = match w {
+        Ok(_) => 0,
+        Err(why) => why.number(),
+    };
+    number as u64 + 256 * (count as u64 % COUNT_PLACES)
 }

@@ -1,19 +1,14 @@
-use mathlib.Core.Path.{ap, ◌∙◌}
-use Prim.Native.Nat.{ℕ}
-use Rattle.words.proofs.Order.{accepted_zero, refused_some}
-use Rattle.door.specs.Answers.{answer}
-use Rattle.door.proofs.Laws.{played_unread, played_of, opened_table, opened_state, policy_unread, policy_read, policy_few}
-use borrow.Author.Rules.{rules}
+use Rattle.std.proofs.Common.{sym, ◌∙◌}
+use Rattle.door.specs.Answers.{policy_outcome}
+use Rattle.door.proofs.Laws.{never_ran, policy_ran, policy_few}
 use Rattle.door.proofs.vt_policy.Goals as goal
 
-pub returns-in_default : goal.returns-in_default
-returns-in_default c = let n = refused_some _ _ _ c.read_both-o.ensures.0 c.in_default.is in played_unread _ _ _ _ _ (λ z. n z) (c.answer.ensures ∙ ap (λ (x : ℕ). answer x 0) c.read_both-o.ensures.0) (policy_unread c.args.table.now c.args.state.now c.args.count (λ z. n z))
-
-pub run_policy_fit-ran-requires : goal.run_policy_fit-ran-requires
-run_policy_fit-ran-requires c = let z = accepted_zero c.read_both-o.result.verdict _ c.read_both-o.ensures.0 (search rules) in (opened_table c.args.table.now c.args.state.now z _ c.read_both-o.ensures.1, opened_state c.args.table.now c.args.state.now z _ _ c.read_both-o.ensures.1 c.read_both-o.ensures.2)
-
 pub played-requires : goal.played-requires
-played-requires c = let z = accepted_zero c.read_both-o.result.verdict _ c.read_both-o.ensures.0 (search rules) in policy_few c.args.table.now c.args.state.now z _ _ c.read_both-o.ensures.1 c.read_both-o.ensures.2 _ c.args.count c.run_policy_fit-ran.ensures
+played-requires c = policy_few c.in-Ok.both c.args.count _ c.run_policy_fit.ensures
 
-pub returns : goal.returns
-returns c = let z = accepted_zero c.read_both-o.result.verdict _ c.read_both-o.ensures.0 (search rules) in played_of _ _ _ _ _ (policy_read c.args.table.now c.args.state.now z _ _ c.read_both-o.ensures.1 c.read_both-o.ensures.2 _ c.args.count c.run_policy_fit-ran.ensures) c.played.ensures
+pub returns-in-Ok : goal.returns-in-Ok
+returns-in-Ok c = let e = c.in-Ok.ensures in rw (policy_ran c.in-Ok.both c.args.table.now c.args.state.now e.number e.records c.args.count ∙ sym c.run_policy_fit.ensures) c.played.ensures
+
+pub returns-in-Err : goal.returns-in-Err
+unfolding policy_outcome
+returns-in-Err c = never_ran c.args.table.now c.args.state.now _ _ _ _ c.in-Err.ensures.number c.answer.ensures
