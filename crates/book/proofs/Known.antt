@@ -1,7 +1,5 @@
 -- What passing a book by value tells: it has its 256 places and remembers a crossing for each of sixty-four heads.
-use mathlib.Core.Path.{◌≡◌}
-use mathlib.Core.List.{List}
-use lib.ListN.{length}
+use Rattle.std.proofs.Common.{◌≡◌, List, length}
 use mir.Val.{Val}
 use denote.Laws.{Is}
 use denote.Struct.Declared.{row}

@@ -1,17 +1,15 @@
--- Laws of rows of places: what is put stands there and nothing else moves; which place is the lowest.
-use mathlib.Core.Path.{◌≡◌, refl, sym, ap, ◌∙◌}
-use mathlib.Core.Bool.{Bool, true, false, cond}
-use mathlib.Core.Logic.{◌⊎◌, inl, inr}
-use mathlib.Core.List.{List}
-use Prim.Native.Nat.{ℕ, zero, suc, ◌+◌, ◌-◌, ◌≤◌, ◌<◌}
-use native.Mathlib.Numerals.{add-one}
-use native.Mathlib.Omega.{arith}
-use lib.Dec.{eqb}
-use lib.ListN.{length, get_or, set, replicate, length-set, length-replicate, get_or-replicate, get_or-eq_default}
-use lib.Seq.{get_or-set_same, get_or-set_other}
-use borrow.Author.Tests.{eq-eqb, ne_eqb}
+-- Laws of rows of places: what is put stands there and nothing else moves; which place is the lowest; a test of each place and of some.
+use Rattle.std.proofs.Common.{◌≡◌, refl, sym, ap, ◌∙◌, Bool, true, false, cond, ◌&&◌, ◌||◌, ◌⊎◌, inl, inr, List, [], ◌∷◌, ℕ, zero, suc, ◌-◌, ◌≤◌, ◌<◌, eqb, length, get_or, set, take, replicate, length-set, add-one, arith}
+use Rattle.std.specs.List.{fold, list_all, list_any, position, position_or_len}
+use Rattle.std.proofs.Math.ListN.{length-replicate, get_or-eq_default}
+use Rattle.std.proofs.lemmas.Bool.{eq-eqb, ne_eqb, lt-ltb, le-ltb}
+use Rattle.std.proofs.lemmas.List.{take_all, get_or-replicate, get_or-set_same, get_or-set_other}
+use Rattle.std.proofs.lemmas.List.Folds.{list_all_more, list_any_more}
+use Rattle.std.proofs.lemmas.List.Sums.{fails_before_first, passes_at_first}
+use Rattle.rules.specs.Each.{every, some}
 use Rattle.rules.proofs.Each.{same_or_not, less_or_not, either_or_not, not_both}
 use Rattle.book.specs.Rows.{at, put, lowest}
+use Rattle.book.specs.Book.{place_number}
 
 -- ---- places by the index that the code has
 
@@ -20,10 +18,6 @@ module _ {A : Type 0} (none : A) (xs : List A) where
   unfolding at
   at_before zero l = absurd (omega arith)
   at_before (suc k) l = let e : suc k - 1 ≡ k = omega arith in rw e
-
-  pub at_after : (k : ℕ) → get_or xs k none ≡ at none xs (k + 1)
-  unfolding at
-  at_after k = rw add-one
 
 pub put_before : {A : Type 0} (xs : List A) (p : ℕ) (x : A) → 1 ≤ p → put xs p x ≡ set xs (p - 1) x
 unfolding put
@@ -112,6 +106,43 @@ lowest_none n f l = let m = lowest_is n f in elim (same_or_not (lowest n f) 0) [
   | inl z ↦ sym z
   | inr z ↦ not_both (f (lowest n f)) (m.passes (omega arith)) (l (lowest n f) (omega arith) m.high)
 ]
+
+-- ---- tests of a whole row, and of its first places, as the code makes them
+
+module _ {A : Type 0} (p : A → Bool) (none : A) (xs : List A) where
+  fits_row : (k : ℕ) → k ≤ length xs → list_all p (take k xs) ≡ every k (λ i. p (at none xs i))
+  unfolding every at
+  fits_row zero l = refl
+  fits_row (suc k) l = rw add-one at (list_all_more p xs k none (omega arith)) ∙ ap (λ b. b && p (get_or xs k none)) (fits_row k (omega arith))
+
+  pub every_row : (n : ℕ) → length xs ≡ n → list_all p xs ≡ every n (λ i. p (at none xs i))
+  every_row n e = ap (list_all p) (sym (take_all n xs (omega arith))) ∙ fits_row n (omega arith)
+
+  pub some_row : (k : ℕ) → k ≤ length xs → list_any p (take k xs) ≡ some k (λ i. p (at none xs i))
+  unfolding some at
+  some_row zero l = refl
+  some_row (suc k) l = rw add-one at (list_any_more p xs k none (omega arith)) ∙ ap (λ b. b || p (get_or xs k none)) (some_row k (omega arith))
+
+-- a fold that keeps what it has seen looks at all of them
+pub seen_any : {A : Type 0} (p : A → Bool) (b : Bool) (xs : List A) → fold (λ seen x. seen || p x) b xs ≡ (b || list_any p xs)
+seen_any p true [] = refl
+seen_any p false [] = refl
+seen_any p true (x ∷ xs) = seen_any p true xs
+seen_any p false (x ∷ xs) = seen_any p (p x) xs
+
+-- the first place of the row that passes is the lowest
+module _ {A : Type 0} (p : A → Bool) (none : A) (xs : List A) where
+  fails_below : (q : ℕ) → 1 ≤ q → q ≤ position_or_len p xs → p (at none xs q) ≡ false
+  unfolding at
+  fails_below zero a b = absurd (omega arith)
+  fails_below (suc k) a b = fails_before_first p xs k none (omega arith)
+
+  pub lowest_row : (n : ℕ) → length xs ≡ n → place_number (position p xs) ≡ lowest n (λ i. p (at none xs i))
+  unfolding at
+  lowest_row n e = elim (less_or_not (position_or_len p xs) (length xs)) [
+    | inl l ↦ rw (lt-ltb _ _ l) (lowest_one n _ _ (omega arith) (omega arith) (passes_at_first p xs none l) (λ q a b. fails_below q a (omega arith)))
+    | inr l ↦ rw (le-ltb _ _ l) (lowest_none n _ (λ q a b. fails_below q a (omega arith)))
+  ]
 
 -- ---- places beyond the row, rows of one thing, and what a put leaves alike
 

@@ -1,5 +1,5 @@
 -- Document 02, P4: a book's places and what it remembers, the new book, and the rules that a book meets (15, 25).
-use Rattle.std.specs.Prelude.{Bool, cond, not, ◌&&◌, ◌||◌, List, [], ◌∷◌, ℕ, ◌-◌, eqb, leb, length, replicate}
+use Rattle.std.specs.Prelude.{Bool, cond, not, ◌&&◌, ◌||◌, List, [], ◌∷◌, ℕ, suc, ◌-◌, eqb, leb, length, replicate, Option, Some, None}
 use Rattle.words.specs.declared.Refusal.TheVariants.{HoldRange, BookRule}
 use Rattle.words.specs.Refusal.{unless, first_refusal}
 use Rattle.rules.specs.Limits.{max_heads}
@@ -38,6 +38,11 @@ last_crossing b i = at no_crossing b.remembered i
 -- the place that holds a number, 0 where none does. A free place has number 0, so the place of 0 is "the lowest free place".
 unfoldable pub place_of : List Entry → ℕ → ℕ
 place_of es number = lowest all_places (λ p. eqb (number_at es p) number)
+
+-- a place that the code found, by its index in the row: 0 where it found none
+abbrev pub place_number : Option ℕ → ℕ
+place_number None = 0
+place_number (Some k) = suc k
 
 -- ---- "A new book is empty, with no number given, nothing remembered and last break 0."
 

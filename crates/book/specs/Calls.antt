@@ -1,21 +1,16 @@
 -- Document 02, P4: what a tail, a new entry and a release do to a book, whatever kind of post the crossing comes from. (P9's post files its
 -- tails, takes its places and numbers and releases its entries by these.)
-use Rattle.std.specs.Prelude.{◌≡◌, Bool, cond, not, ◌&&◌, List, [], ◌∷◌, ℕ, suc, ◌+◌, ◌-◌, min, eqb, ltb}
+use Rattle.std.specs.Prelude.{Bool, cond, not, ◌&&◌, List, [], ◌∷◌, ℕ, suc, ◌+◌, ◌-◌, min, eqb, ltb}
 use Rattle.words.specs.declared.Refusal.TheVariants.{NoFreePlace, NoSuchEntry, NoNumberLeft}
-use Rattle.words.specs.Refusal.{verdict_number, unless, first_refusal}
+use Rattle.words.specs.Refusal.{unless, first_refusal}
 use Rattle.book.specs.declared.Entry.{Entry}
 use Rattle.book.specs.declared.Crossing.{Crossing}
 use Rattle.book.specs.declared.Book.{Book}
-use Rattle.book.specs.declared.Booked.{Booked}
 use Rattle.book.specs.Limits.{most_tails, last_number}
 use Rattle.book.specs.Rows.{put}
 use Rattle.book.specs.Book.{no_entry, entry_at, last_crossing, place_of, hold_refusal, rules_refusal}
 
--- ---- what a call answers
-
--- its refusal number, 0 where it is accepted, and a book
-abbrev pub Answers : Booked → ℕ → Book → Type 0
-Answers r number b = (verdict_number r.verdict ≡ number) × (r.book ≡ b)
+-- ---- the book that a call answers
 
 -- "A refused call returns the book as it was given."
 unfoldable pub book_after : Book → Book → ℕ → Book

@@ -1,129 +1,93 @@
 // What a tail, a new entry and a release do to a book.
 ghost use Rattle.std.specs.Prelude.{◌≡◌, ◌≤◌};
+ghost use Rattle.words.specs.Answer.{Answers};
 ghost use Rattle.rules.specs.Limits.{max_heads};
 ghost use Rattle.book.specs.Book.{last_crossing};
-ghost use Rattle.book.specs.Calls.{Answers, is_tail, one_more, tailed, entry_refusal, entered, book_after, held_refusal, release_refusal, released, release_answer};
+ghost use Rattle.book.specs.Calls.{is_tail, tailed, entry_refusal, entered, book_after, held_refusal, release_refusal, released, release_answer};
 
-use crate::answers::{accepted, refused};
 use crate::places::find;
-use crate::{Book, Booked, Crossing, Entry};
-use words::{Refusal, Verdict};
+use crate::{Book, Crossing, Entry};
+use words::{Answer, Refusal};
 
 impl Book {
     // Whether a break of a head at a tick is a tail of the head's last crossing.
+    #[tactic(auto, unfolding(crate::specs::Calls::is_tail), using(crate::proofs::Rows::at_before))]
     pub fn is_tail(self, head: u8, clock: u32) -> bool
         requires { (1 ≤ head) × (head ≤ max_heads) × (((last_crossing self head).number ≡ 0 → ⊥) → (last_crossing self head).tick ≤ clock) }
         ensures { result ≡ is_tail self head clock }
     {
         let c = self.remembered[head as usize - 1];
-        if c.number == 0 {
-            return false;
-        }
-        clock - c.tick < self.hold as u32
+        c.number != 0 && clock - c.tick < self.hold as u32
     }
 
     // The book after such a tail, counted in the entry that holds the crossing, and nowhere if that was released.
+    #[tactic(auto, unfolding(crate::specs::Calls::tailed, crate::specs::Calls::counted, crate::specs::Calls::one_more, crate::specs::Rows::put), using(crate::proofs::Rows::at_before))]
     pub fn tailed(self, head: u8, clock: u32) -> Book
         requires { (1 ≤ head) × (head ≤ max_heads) }
         ensures { result ≡ tailed self head clock }
     {
         let c = self.remembered[head as usize - 1];
-        let mut b = self;
-        b.latest = clock;
-        let es = self.places;
-        let p = find(es, c.number);
-        if p == 0 {
-            return b;
-        }
-        let e = es[p - 1];
-        b.places[p - 1] = Entry {
-            number: e.number,
-            tick: e.tick,
-            head: e.head,
-            tails: one_more(e.tails),
+        let mut b = Book {
+            latest: clock,
+            ..self
         };
+        if let Some(p) = find(&self.places, c.number) {
+            b.places[p].tails = b.places[p].tails.saturating_add(1);
+        }
         b
     }
 
     // The book with a new entry for a head's crossing at a tick, in the lowest free place; or 18 or 20.
-    pub fn enter(self, head: u8, tick: u32, clock: u32) -> Booked
+    #[tactic(auto, unfolding(crate::specs::Calls::entry_refusal, crate::specs::Calls::place_refusal, crate::specs::Calls::number_refusal, crate::specs::Calls::entered, crate::specs::Calls::book_after, crate::specs::Rows::put, words::specs::Refusal::first_refusal, words::specs::Refusal::unless), using(crate::proofs::Rows::put_before))]
+    pub fn enter(self, head: u8, tick: u32, clock: u32) -> Answer<Book>
         requires { (1 ≤ head) × (head ≤ max_heads) }
         ensures { Answers result (entry_refusal self) (book_after self (entered self head tick clock) (entry_refusal self)) }
     {
-        let es = self.places;
-        let p = find(es, 0);
-        if p == 0 {
-            return refused(self, Refusal::NoFreePlace);
-        }
+        let Some(p) = find(&self.places, 0) else {
+            return Err(Refusal::NoFreePlace.with(self));
+        };
         if self.given == Book::LAST_NUMBER {
-            return refused(self, Refusal::NoNumberLeft);
+            return Err(Refusal::NoNumberLeft.with(self));
         }
         let number = self.given + 1;
-        let mut b = self;
-        b.given = number;
-        b.latest = clock;
-        b.remembered[head as usize - 1] = Crossing {
-            number: number,
-            tick: tick,
+        let mut b = Book {
+            given: number,
+            latest: clock,
+            ..self
         };
-        b.places[p - 1] = Entry {
-            number: number,
-            tick: tick,
-            head: head,
+        b.remembered[head as usize - 1] = Crossing { number, tick };
+        b.places[p] = Entry {
+            number,
+            tick,
+            head,
             tails: 0,
         };
-        accepted(b)
+        Ok(b)
     }
 
     // Frees the place of an entry, by its number; or 15, 25 or 19.
-    pub fn release(self, number: u32) -> Booked
+    #[tactic(auto, unfolding(crate::specs::Calls::release_answer, crate::specs::Calls::book_after), using(crate::proofs::Filing::release_book, crate::proofs::Filing::release_own, words::proofs::Order::number_some))]
+    pub fn release(self, number: u32) -> Answer<Book>
         ensures { Answers result (release_refusal self number) (release_answer self number) }
     {
-        let v = self.check();
-        let Verdict::Accepted = v else {
-            return Booked {
-                verdict: v,
-                book: self,
-            };
-        };
-        self.release_fit(number)
+        match self.check() {
+            Ok(()) => self.release_fit(number),
+            Err(why) => Err(why.with(self)),
+        }
     }
 
     // The same of a book that is known to fit. Its last number stays the last, whatever is released: no number is given again.
-    fn release_fit(self, number: u32) -> Booked
+    #[tactic(auto, unfolding(crate::specs::Calls::held_refusal, crate::specs::Calls::released, crate::specs::Calls::book_after, crate::specs::Rows::put, words::specs::Refusal::unless))]
+    fn release_fit(self, number: u32) -> Answer<Book>
         ensures { Answers result (held_refusal self number) (book_after self (released self number) (held_refusal self number)) }
     {
-        if number == 0 {
-            return refused(self, Refusal::NoSuchEntry);
+        match find(&self.places, number) {
+            Some(p) if number != 0 => {
+                let mut b = self;
+                b.places[p] = Entry::FREE;
+                Ok(b)
+            }
+            _ => Err(Refusal::NoSuchEntry.with(self)),
         }
-        let mut es = self.places;
-        let p = find(es, number);
-        if p == 0 {
-            return refused(self, Refusal::NoSuchEntry);
-        }
-        es[p - 1] = Entry {
-            number: 0,
-            tick: 0,
-            head: 0,
-            tails: 0,
-        };
-        let last = self.remembered;
-        accepted(Book {
-            hold: self.hold,
-            given: self.given,
-            latest: self.latest,
-            remembered: last,
-            places: es,
-        })
     }
-}
-
-// A tail count with one more, which stays at the last.
-fn one_more(tails: u16) -> u16
-    ensures { result ≡ one_more tails }
-{
-    if tails == Book::MOST_TAILS {
-        return tails;
-    }
-    tails + 1
 }

@@ -3,17 +3,16 @@
 // It uses words and rules.
 #![tactic(auto)]
 
-mod answers;
 mod breaks;
 mod calls;
 mod checks;
 mod places;
 
-use words::Verdict;
+use rules::State;
 
 // A held crossing: its number, its tick, whose it is (a head, or what a post goes by), and how many tails were filed in it. A free place
 // is all zero.
-#[derive(Clone, Copy)]
+#[derive(Clone, Copy, PartialEq, Eq, Debug)]
 pub struct Entry {
     pub number: u32,
     pub tick: u32,
@@ -22,26 +21,19 @@ pub struct Entry {
 }
 
 // A head's last entered crossing, released or not. Number 0 remembers none.
-#[derive(Clone, Copy)]
+#[derive(Clone, Copy, PartialEq, Eq, Debug)]
 pub struct Crossing {
     pub number: u32,
     pub tick: u32,
 }
 
-// The hold H in ticks, the last number given, the clock of the last break, what each head's last crossing was, and 256 places, of which
+// The hold H in ticks, the last number given, the clock of the last break, what each head's last crossing was, and the places, of which
 // those with number 0 are free.
-#[derive(Clone, Copy)]
+#[derive(Clone, Copy, PartialEq, Eq, Debug)]
 pub struct Book {
     pub hold: u16,
     pub given: u32,
     pub latest: u32,
-    pub remembered: [Crossing; 64],
-    pub places: [Entry; 256],
-}
-
-// A verdict beside a book: the next or the new one where it accepts.
-#[derive(Clone, Copy)]
-pub struct Booked {
-    pub verdict: Verdict,
-    pub book: Book,
+    pub remembered: [Crossing; State::MAX_HEADS],
+    pub places: [Entry; Book::PLACES],
 }

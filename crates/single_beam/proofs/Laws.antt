@@ -1,85 +1,53 @@
--- A break, case by case and in the code's own terms: each return of a function cites one law.
-use mathlib.Core.Path.{◌≡◌, sym, ap, ◌∙◌}
-use mathlib.Core.Bool.{true, false}
-use mathlib.Core.List.{[], ◌∷◌}
-use Prim.Native.Nat.{ℕ}
-use borrow.Author.Tests.{ne_eqb}
-use Rattle.words.specs.Refusal.{verdict_number, first_refusal}
-use Rattle.words.proofs.Order.{first_last, row_first, row_past}
+-- A break, case by case: what refuses it whether it is a tail or not comes first; then what it comes to, and a new entry's refusals.
+use Rattle.std.proofs.Common.{◌≡◌, refl, true, false, [], ◌∷◌, ℕ, zero, suc, ◌≤◌}
+use Rattle.words.specs.Refusal.{first_refusal}
+use Rattle.words.proofs.Order.{row_is}
 use Rattle.rules.specs.declared.State.{State}
 use Rattle.rules.specs.declared.Table.{Table}
-use Rattle.rules.specs.Table.{table_refusal}
-use Rattle.rules.specs.State.{state_refusal}
+use Rattle.rules.specs.Limits.{max_heads}
 use Rattle.rules.specs.Judge.{record_refusal}
+use Rattle.rules.proofs.Checks.{accepted_record}
+use Rattle.rules.proofs.Meaning.{table_meets}
 use Rattle.book.specs.declared.Book.{Book}
-use Rattle.book.specs.declared.Booked.{Booked}
-use Rattle.book.specs.Book.{hold_refusal, rules_refusal, book_refusal}
-use Rattle.book.specs.Breaks.{clock_refusal, head_refusal, admit_refusal}
-use Rattle.book.specs.Calls.{Answers, is_tail, tailed, entry_refusal, entered, book_after}
-use Rattle.single_beam.specs.Break.{new_refusal, cross_refusal, break_refusal, crossed, break_answer}
+use Rattle.book.specs.Book.{book_fits, book_refusal}
+use Rattle.book.specs.Breaks.{admit_refusal}
+use Rattle.book.specs.Calls.{is_tail, tailed, entry_refusal, entered}
+use Rattle.book.proofs.Rules.{accepted_book}
+use Rattle.book.proofs.Admits.{accepted_break}
+use Rattle.single_beam.specs.Break.{new_refusal, cross_refusal, may_break_refusal, break_refusal, crossed}
 
--- ---- a tail, or a new entry
+-- ---- the refusals of a break, in two parts
 
-module _ (b : Book) (i clock : ℕ) (r : Booked) where
-  pub crossed_tail : is_tail b i clock ≡ true → (r.book ≡ tailed b i clock) → verdict_number r.verdict ≡ 0 → Answers r (new_refusal b i clock) (book_after b (crossed b i clock) (new_refusal b i clock))
-  unfolding new_refusal crossed book_after
-  crossed_tail e k v = rw e (v, k)
+in_parts :
+    (a b c d e f g : ℕ) → first_refusal (a ∷ b ∷ c ∷ d ∷ first_refusal (e ∷ f ∷ g ∷ []) ∷ []) ≡
+    first_refusal (first_refusal (first_refusal (a ∷ b ∷ []) ∷ first_refusal (c ∷ d ∷ []) ∷ first_refusal (e ∷ f ∷ []) ∷ []) ∷ g ∷ [])
+unfolding first_refusal
+in_parts (suc a) b c d e f g = refl
+in_parts zero (suc b) c d e f g = refl
+in_parts zero zero (suc c) d e f g = refl
+in_parts zero zero zero (suc d) e f g = refl
+in_parts zero zero zero zero (suc e) f g = refl
+in_parts zero zero zero zero zero (suc f) g = refl
+in_parts zero zero zero zero zero zero (suc g) = refl
+in_parts zero zero zero zero zero zero zero = refl
 
-  pub crossed_new : is_tail b i clock ≡ false → Answers r (entry_refusal b) (book_after b (entered b i clock clock) (entry_refusal b)) → Answers r (new_refusal b i clock) (book_after b (crossed b i clock) (new_refusal b i clock))
-  unfolding new_refusal crossed
-  crossed_new e a = rw e a
-
--- ---- the refusals of a break on what fits: those of the book, then its own
+-- a table that passed the check has no more heads than there are places
+pub heads_within : (t : Table) (s : State) → record_refusal t s ≡ 0 → t.n ≤ max_heads
+heads_within t s e = (table_meets t (accepted_record t s e).0).heads
 
 module _ (t : Table) (s : State) (b : Book) (i : ℕ) where
-  admit_first : (admit_refusal t s b i ≡ 0 → ⊥) → admit_refusal t s b i ≡ cross_refusal t s b i
-  unfolding cross_refusal admit_refusal
-  admit_first n = row_first (clock_refusal b s.clock) (head_refusal t s i) _ n
+  -- what a break is refused for whether it is a tail or not comes first, then what a new entry is refused for
+  pub break_row : break_refusal t s b i ≡ first_refusal (may_break_refusal t s b i ∷ new_refusal b i s.clock ∷ [])
+  unfolding break_refusal cross_refusal may_break_refusal record_refusal book_refusal admit_refusal
+  break_row = in_parts _ _ _ _ _ _ (new_refusal b i s.clock)
 
-  pub not_admitted : (r : Booked) → (admit_refusal t s b i ≡ 0 → ⊥) → verdict_number r.verdict ≡ admit_refusal t s b i → r.book ≡ b → Answers r (cross_refusal t s b i) (book_after b (crossed b i s.clock) (cross_refusal t s b i))
-  unfolding book_after
-  not_admitted r n v k = (v ∙ admit_first n, k ∙ rw (← admit_first n, ne_eqb (admit_refusal t s b i) 0 n))
-
-  pub may_cross : admit_refusal t s b i ≡ 0 → new_refusal b i s.clock ≡ cross_refusal t s b i
-  unfolding cross_refusal admit_refusal
-  may_cross z = sym (first_last (new_refusal b i s.clock)) ∙ row_past (clock_refusal b s.clock) (head_refusal t s i) _ z
-
-  pub judged_cross : (r : Booked) → new_refusal b i s.clock ≡ cross_refusal t s b i → Answers r (new_refusal b i s.clock) (book_after b (crossed b i s.clock) (new_refusal b i s.clock)) → Answers r (cross_refusal t s b i) (book_after b (crossed b i s.clock) (cross_refusal t s b i))
-  judged_cross r e a = (a.0 ∙ e, a.1 ∙ ap (book_after b (crossed b i s.clock)) e)
-
-  -- ---- the refusals of the records come first, then those of the book, then its own
-
-  -- a break refused with a number other than 0 answers the book as it was given
-  kept : (r : Booked) (number : ℕ) → (number ≡ 0 → ⊥) → number ≡ break_refusal t s b i → verdict_number r.verdict ≡ number → r.book ≡ b → Answers r (break_refusal t s b i) (break_answer t s b i)
-  unfolding break_answer book_after
-  kept r number n e v k = (v ∙ e, k ∙ rw (← e, ne_eqb number 0 n))
-
-  records_first : (record_refusal t s ≡ 0 → ⊥) → record_refusal t s ≡ break_refusal t s b i
-  unfolding record_refusal break_refusal
-  records_first n = row_first (table_refusal t) (state_refusal t s) _ n
-
-  pub unfit_records : (r : Booked) → (record_refusal t s ≡ 0 → ⊥) → verdict_number r.verdict ≡ record_refusal t s → r.book ≡ b → Answers r (break_refusal t s b i) (break_answer t s b i)
-  unfit_records r n v k = kept r (record_refusal t s) n (records_first n) v k
-
-  module _ (z : record_refusal t s ≡ 0) where
-    past_records : break_refusal t s b i ≡ first_refusal (hold_refusal b.hold ∷ rules_refusal b ∷ cross_refusal t s b i ∷ [])
-    unfolding record_refusal break_refusal
-    past_records = sym (row_past (table_refusal t) (state_refusal t s) _ z)
-
-    book_next : (book_refusal b ≡ 0 → ⊥) → book_refusal b ≡ break_refusal t s b i
-    unfolding book_refusal
-    book_next n = row_first (hold_refusal b.hold) (rules_refusal b) _ n ∙ sym past_records
-
-    pub unfit_book : (r : Booked) → (book_refusal b ≡ 0 → ⊥) → verdict_number r.verdict ≡ book_refusal b → r.book ≡ b → Answers r (break_refusal t s b i) (break_answer t s b i)
-    unfit_book r n v k = kept r (book_refusal b) n (book_next n) v k
-
-    own_last : book_refusal b ≡ 0 → cross_refusal t s b i ≡ break_refusal t s b i
-    unfolding book_refusal
-    own_last y = sym (first_last (cross_refusal t s b i)) ∙ row_past (hold_refusal b.hold) (rules_refusal b) _ y ∙ sym past_records
-
-    pub all_fit : (r : Booked) → book_refusal b ≡ 0 → Answers r (cross_refusal t s b i) (book_after b (crossed b i s.clock) (cross_refusal t s b i)) → Answers r (break_refusal t s b i) (break_answer t s b i)
-    unfolding break_answer
-    all_fit r y a = (a.0 ∙ own_last y, a.1 ∙ ap (book_after b (crossed b i s.clock)) (own_last y))
+  -- what a break that may be made has shown
+  pub may_break : may_break_refusal t s b i ≡ 0 → (book_fits b ≡ true) × (b.latest ≤ s.clock) × (1 ≤ i) × (i ≤ max_heads)
+  unfolding may_break_refusal
+  may_break z =
+      let r = row_is (record_refusal t s) (book_refusal b) (admit_refusal t s b i) z in
+      let k = accepted_break t s b i (accepted_record t s r.0).0 r.2 in
+      ((accepted_book b r.1).1, k.0, k.1, k.2)
 
 -- ---- what a break comes to, and the refusal of a new entry, where it is a tail and where it is not
 

@@ -4,63 +4,47 @@
 #![tactic(auto)]
 
 ghost use Rattle.std.specs.Prelude.{◌≡◌, true, ◌≤◌};
+ghost use Rattle.words.specs.Refusal.{verdict_number};
+ghost use Rattle.words.specs.Answer.{Answers};
 ghost use Rattle.rules.specs.Limits.{max_heads};
-ghost use Rattle.rules.specs.Table.{table_fits};
 ghost use Rattle.book.specs.Book.{book_fits};
-ghost use Rattle.book.specs.Calls.{Answers, book_after};
-ghost use Rattle.single_beam.specs.Break.{new_refusal, cross_refusal, crossed, break_refusal, break_answer};
+ghost use Rattle.book.specs.Calls.{book_after};
+ghost use Rattle.single_beam.specs.Break.{new_refusal, may_break_refusal, crossed, break_refusal, break_answer};
 
-use book::{Book, Booked};
+use book::Book;
 use rules::{State, Table};
-use words::Verdict;
+use words::{Answer, Verdict};
 
 // A break of head i at the state's clock, in any book: a tail of the head's last crossing, or a new entry.
-pub fn break_of(t: Table, s: State, b: Book, i: u8) -> Booked
+#[tactic(auto, unfolding(crate::specs::Break::break_answer, book::specs::Calls::book_after, words::specs::Refusal::first_refusal), using(crate::proofs::Laws::break_row, crate::proofs::Laws::may_break, words::proofs::Order::number_some))]
+pub fn break_of(t: Table, s: State, b: Book, i: u8) -> Answer<Book>
     ensures { Answers result (break_refusal t s b i) (break_answer t s b i) }
 {
-    let v = s.check(t);
-    let Verdict::Accepted = v else {
-        return Booked {
-            verdict: v,
-            book: b,
-        };
-    };
-    let w = b.check();
-    let Verdict::Accepted = w else {
-        return Booked {
-            verdict: w,
-            book: b,
-        };
-    };
-    break_of_fit(t, s, b, i)
+    match may_break(t, s, b, i) {
+        Ok(()) => cross(b, i, s.clock),
+        Err(why) => Err(why.with(b)),
+    }
 }
 
-// The same where table, state and book are known to fit.
-fn break_of_fit(t: Table, s: State, b: Book, i: u8) -> Booked
-    requires { (table_fits t ≡ true) × (book_fits b ≡ true) }
-    ensures { Answers result (cross_refusal t s b i) (book_after b (crossed b i s.clock) (cross_refusal t s b i)) }
+// What refuses a break whether it is a tail or not: table and state, then the book, then clock and head.
+#[tactic(auto, unfolding(crate::specs::Break::may_break_refusal, words::specs::Refusal::first_refusal), using(crate::proofs::Laws::heads_within, words::proofs::Order::number_some))]
+fn may_break(t: Table, s: State, b: Book, i: u8) -> Verdict
+    ensures { verdict_number result ≡ may_break_refusal t s b i }
 {
-    let v = b.admits(t, s, i);
-    let Verdict::Accepted = v else {
-        return Booked {
-            verdict: v,
-            book: b,
-        };
-    };
-    cross(b, i, s.clock)
+    s.check(t)?;
+    b.check()?;
+    b.admits(t, s, i)
 }
 
 // A break that the book admits.
-fn cross(b: Book, i: u8, clock: u32) -> Booked
+#[tactic(auto, unfolding(crate::specs::Break::new_refusal, crate::specs::Break::crossed, book::specs::Calls::book_after), using(book::proofs::Rules::remembered_past))]
+fn cross(b: Book, i: u8, clock: u32) -> Answer<Book>
     requires { (book_fits b ≡ true) × (b.latest ≤ clock) × (1 ≤ i) × (i ≤ max_heads) }
     ensures { Answers result (new_refusal b i clock) (book_after b (crossed b i clock) (new_refusal b i clock)) }
 {
     if b.is_tail(i, clock) {
-        let after = b.tailed(i, clock);
-        return Booked {
-            verdict: Verdict::Accepted,
-            book: after,
-        };
+        Ok(b.tailed(i, clock))
+    } else {
+        b.enter(i, clock, clock)
     }
-    b.enter(i, clock, clock)
 }

@@ -1,16 +1,13 @@
-use native.Mathlib.Omega.{arith}
-use Rattle.book.proofs.Rules.{find_more, find_here, find_nowhere}
-use borrow.Author.Rules.{rules}
+use Rattle.std.proofs.Common.{eqb, rules}
+use Rattle.std.proofs.lemmas.Iterator.{YieldsList-from_slice}
+use Rattle.std.proofs.lemmas.Iterator.Search.{position_from_yields_List}
+use Rattle.book.specs.Book.{no_entry, place_of}
+use Rattle.book.proofs.Rows.{lowest_row}
 use Rattle.book.proofs.places.find.Goals as goal
 
-pub loop-k-init : goal.loop-k-init
-loop-k-init c = (search rules, λ q a b. absurd (omega arith))
-
-pub returns-then-e-number : goal.returns-then-e-number
-returns-then-e-number c = (find_here _ _ _ (search rules) c.loop-k.invariant.1 c.if-e-number.true, search rules)
-
-pub loop-k-preserved : goal.loop-k-preserved
-loop-k-preserved c = (search rules, find_more _ _ _ c.loop-k.invariant.1 c.if-e-number.false)
-
-pub returns : goal.returns
-returns c = (find_nowhere _ _ _ (search rules) c.loop-k.invariant.1, search rules)
+pub returns-clause-place : goal.returns-clause-place
+unfolding place_of
+returns-clause-place c =
+    let es = c.args.es.now in
+    let seen = position_from_yields_List (λ e. eqb e.number c.args.number) _ _ _ c.position.ensures.ran (YieldsList-from_slice es (cc)) (λ x b q k. search rules) in
+    rw seen (lowest_row (λ e. eqb e.number c.args.number) no_entry es _ (search rules))

@@ -1,15 +1,10 @@
-use mathlib.Core.Path.{refl}
-use Rattle.rules.specs.Each.{some}
-use Rattle.book.proofs.Rules.{stands_more, stands_all}
-use borrow.Author.Rules.{rules}
+use Rattle.std.proofs.Common.{◌∙◌, ◌||◌, eqb, false, rules}
+use Rattle.std.proofs.lemmas.Iterator.{YieldsList-from_slice}
+use Rattle.std.proofs.lemmas.Iterator.Consumers.{fold_from_yields_List}
+use Rattle.book.proofs.Rows.{seen_any}
 use Rattle.book.proofs.places.stands.Goals as goal
 
-pub loop-j-init : goal.loop-j-init
-unfolding some
-loop-j-init c = (search rules, search rules, refl)
-
-pub loop-j-preserved : goal.loop-j-preserved
-loop-j-preserved c = (search rules, search rules, stands_more _ _ _ _ _ c.loop-j.invariant.2 c.either-seen.ensures)
-
 pub returns : goal.returns
-returns c = stands_all _ _ _ _ _ c.loop-j.invariant.2 (search rules) (search rules)
+returns c =
+    let a = c.args in
+    fold_from_yields_List _ (λ s x. s || eqb x a.number) _ _ c.fold.ensures.ran (YieldsList-from_slice a.numbers.now (cc)) (λ s x b q k. search rules) ∙ seen_any (λ x. eqb x a.number) false a.numbers.now

@@ -1,7 +1,0 @@
-use Rattle.book.proofs.places.either.Goals as goal
-
-pub returns-then-seen : goal.returns-then-seen
-returns-then-seen c = rw c.if-seen.true
-
-pub returns : goal.returns
-returns c = rw c.if-seen.false
