@@ -1,133 +1,95 @@
 // What the lines of the sheet try. Behind judge, read and write the second word's first letter says what of.
-use crate::letters::{letter, number, number8, place};
-use crate::print::{answer, field, judged, text};
+use crate::letters::{find, letter, number, place};
+use crate::print::{answer, answered, field, record, text};
 use crate::{print, records};
-use rules::{State, Table, Written};
+use rules::{State, Table};
 use runs::Ran;
-use words::Step;
+use words::{Refusal, Step};
 
-// The longest image or room that is tried, and a place outside of it.
+// The longest image or room that is tried.
 const ROOM: usize = 300;
 
-const OUTSIDE: u64 = 300;
-
-// The bytes of the longest run that is given, and a number that is no byte.
+// The bytes of the longest run that is given.
 const MOST_BYTES: usize = 64;
-
-const NO_BYTE: u64 = 256;
 
 // The state with another calendar.
 pub fn calendar(t: Table, s: State, line: &[u8]) {
-    let mut u = s;
-    u.calendar = records::calendar(line, 0);
+    let u = State {
+        calendar: records::calendar(line, 0),
+        ..s
+    };
     answer(u.check(t));
 }
 
 // The state with another head at a place.
 pub fn head(t: Table, s: State, line: &[u8]) {
-    let k = place(line);
     let mut u = s;
-    u.heads[k] = records::head(line, 1);
+    u.heads[place(line, State::MAX_HEADS)] = records::head(line, 1);
     answer(u.check(t));
-}
-
-pub fn fresh(t: Table) {
-    judged(State::fresh(t), State::blank(), b" blank");
 }
 
 // A step as the enum and as its two bytes, or two bytes that name no step.
 pub fn judge(t: Table, s: State, line: &[u8]) {
-    if letter(line, 6) == b'p' {
-        judged(
-            judge::pair(t, s, number8(line, 0), number8(line, 1)),
-            s,
-            b" kept",
-        );
-    } else {
-        step(t, s, step_of(line));
-    }
-}
-
-fn step_of(line: &[u8]) -> Step {
     match letter(line, 6) {
-        b'a' => Step::Advance,
-        b't' => Step::Timer(number8(line, 0)),
-        _ => Step::Hear(number8(line, 0)),
+        b'p' => {
+            answered(
+                judge::pair(t, s, number(line, 0), number(line, 1)),
+                s,
+                b" kept",
+            );
+        }
+        b'a' => step(t, s, Step::Advance),
+        b't' => step(t, s, Step::Timer(number(line, 0))),
+        _ => step(t, s, Step::Hear(number(line, 0))),
     }
 }
 
+// A step, then the same as its two bytes, beside the state that the step came to.
 fn step(t: Table, s: State, x: Step) {
-    let j = judge::step(t, s, x);
-    judged(j, s, b" kept");
-    let u = j.state;
-    as_pair(t, s, x, u);
-}
-
-// The same step as its two bytes, beside the state that the step came to.
-fn as_pair(t: Table, s: State, x: Step, came: State) {
+    let came = answered(judge::step(t, s, x), s, b" kept");
     text(b", pair");
-    judged(judge::pair(t, s, x.kind(), x.head()), came, b" alike");
+    answered(judge::pair(t, s, x.kind(), x.head()), came, b" alike");
 }
 
 // The first bytes of the table's or the state's image, with up to two bytes changed.
 pub fn read(t: Table, s: State, line: &[u8]) {
     let what = letter(line, 5);
     let mut image = [0u8; ROOM];
-    written(t, s, what, &mut image);
-    damage(&mut image, line);
-    read_first(t, what, number(line, 0, 0) as usize, &image);
-}
-
-// The bytes that a line changes: place and byte, twice at most, behind how many are read.
-fn damage(image: &mut [u8], line: &[u8]) {
-    change(image, number(line, 1, OUTSIDE) as usize, number8(line, 2));
-    change(image, number(line, 3, OUTSIDE) as usize, number8(line, 4));
-}
-
-fn change(image: &mut [u8], at: usize, to: u8) {
-    if at < image.len() {
-        image[at] = to;
+    let _ = write_to(t, s, what, &mut image);
+    change(&mut image, find(line, 1), number(line, 2));
+    change(&mut image, find(line, 3), number(line, 4));
+    if let Some(first) = image.get(..number::<u64>(line, 0) as usize) {
+        read_first(t, what, first);
     }
 }
 
-fn read_first(t: Table, what: u8, n: usize, image: &[u8]) {
-    if n > image.len() {
-        return;
+// Changes the byte at a place, where a line names one of the image.
+fn change(image: &mut [u8], at: Option<u64>, to: u8) {
+    if let Some(at) = at
+        && let Some(byte) = image.get_mut(at as usize)
+    {
+        *byte = to;
     }
-    let first = &image[0..n];
+}
+
+fn read_first(t: Table, what: u8, first: &[u8]) {
     if what == b't' {
-        print::table(table_images::read(first));
+        answered(table_images::read(first), Table::BLANK, b" blank");
     } else {
-        read_state(t, first);
+        answered(state_images::read(t, first), State::blank(), b" blank");
     }
-}
-
-fn read_state(t: Table, image: &[u8]) {
-    judged(state_images::read(t, image), State::blank(), b" blank");
 }
 
 // An image or a step list, in a room that holds aa before.
 pub fn write(t: Table, s: State, line: &[u8]) {
-    let mut bytes = [0xaau8; ROOM];
-    write_first(
-        t,
-        s,
-        letter(line, 6),
-        number(line, 0, 0) as usize,
-        &mut bytes,
-    );
-}
-
-fn write_first(t: Table, s: State, what: u8, n: usize, bytes: &mut [u8]) {
-    if n > bytes.len() {
-        return;
+    let mut bytes = [0xaa; ROOM];
+    if let Some(room) = bytes.get_mut(..number::<u64>(line, 0) as usize) {
+        let w = write_to(t, s, letter(line, 6), room);
+        print::written(w, room);
     }
-    let room = &mut bytes[0..n];
-    let w = written(t, s, what, room);
-    print::written(w, room);
 }
 
-fn written(t: Table, s: State, what: u8, room: &mut [u8]) -> Written {
+fn write_to(t: Table, s: State, what: u8, room: &mut [u8]) -> Result<usize, Refusal> {
     match what {
         b't' => table_images::write(t, room),
         b's' => state_images::write(t, s, room),
@@ -137,36 +99,23 @@ fn written(t: Table, s: State, what: u8, room: &mut [u8]) -> Written {
 
 // A run of the steps that a line gives.
 pub fn given(t: Table, s: State, line: &[u8]) {
-    let mut pairs = [0u8; MOST_BYTES];
-    let n = bytes_of(line, &mut pairs);
-    if n > MOST_BYTES {
-        return;
-    }
-    ran(s, runs::run_given(t, s, &pairs[0..n]));
+    let pairs: [u8; MOST_BYTES] = std::array::from_fn(|k| number(line, k));
+    let n = (0..MOST_BYTES).take_while(|&k| is_byte(line, k)).count();
+    ran(s, runs::run_given(t, s, &pairs[..n]));
 }
 
-// Puts the numbers of a line in a room, and answers how many they are.
-fn bytes_of(line: &[u8], room: &mut [u8]) -> usize {
-    let mut k: usize = 0;
-    while k < room.len() {
-        if number(line, k, NO_BYTE) >= NO_BYTE {
-            return k;
-        }
-        room[k] = number8(line, k);
-        k += 1;
-    }
-    k
+// Whether a line has a number there, and it is a byte.
+fn is_byte(line: &[u8], before: usize) -> bool {
+    matches!(find(line, before), Some(0..=255))
 }
 
 pub fn policy(t: Table, s: State, line: &[u8]) {
-    ran(s, runs::run_policy(t, s, number(line, 0, 0) as usize));
+    ran(s, runs::run_policy(t, s, number::<u64>(line, 0) as usize));
 }
 
 // What a run answered.
 fn ran(given: State, r: Ran) {
-    let v = r.verdict;
-    answer(v);
+    answer(r.verdict);
     field(b" accepted", r.accepted as u64);
-    let s = r.state;
-    print::state(s, given, b" kept");
+    record(r.state, given, b" kept");
 }
