@@ -1,62 +1,67 @@
 // What the lines of the sheet try of a crossing book. Behind book the second word's first letter says what is tried. Each function tells
 // what came and answers the book that the lines below start from.
 use crate::letters::{find, letter, number, place};
-use crate::pages;
 use crate::print::{answer, answered};
+use crate::{Bench, pages};
 use book::{Book, Crossing, Entry};
-use rules::{State, Table};
+use rules::State;
 use words::Answer;
 
 // The all-zero book, written out here: the sheet judges what Book::new answers and takes nothing from it.
-pub fn blank() -> Book {
-    Book {
-        hold: 0,
-        given: 0,
-        latest: 0,
-        remembered: [Crossing { number: 0, tick: 0 }; State::MAX_HEADS],
-        places: [Entry {
-            number: 0,
-            tick: 0,
-            head: 0,
-            tails: 0,
-        }; Book::PLACES],
-    }
-}
+pub const BLANK: Book = Book {
+    hold: 0,
+    given: 0,
+    latest: 0,
+    remembered: [Crossing { number: 0, tick: 0 }; State::MAX_HEADS],
+    places: [Entry {
+        number: 0,
+        tick: 0,
+        head: 0,
+        tails: 0,
+    }; Book::PLACES],
+};
 
-pub fn next(t: Table, s: State, b: Book, line: &[u8]) -> Book {
-    match letter(line, 5) {
-        b'n' => answered(Book::new(number(line, 0)), blank(), b" blank"),
-        b'b' => broken(t, s, b, line),
-        b'r' => answered(b.release(number(line, 0)), b, b" kept"),
-        _ => forged(b, line),
+impl Bench {
+    pub fn next_book(&self, line: &[u8]) -> Book {
+        let b = self.book;
+        match letter(line, 5) {
+            b'n' => answered(Book::new(number(line, 0)), BLANK, b" blank"),
+            b'b' => self.broken(line),
+            b'r' => answered(b.release(number(line, 0)), b, b" kept"),
+            _ => forged(b, line),
+        }
     }
-}
 
-// Breaks of a head, and where they are accepted its last crossing.
-fn broken(t: Table, s: State, b: Book, line: &[u8]) -> Book {
-    let came = breaks(t, s, b, line);
-    let after = answered(came, b, b" kept");
-    if came.is_ok() {
-        pages::crossing(&after, place(line, State::MAX_HEADS));
+    // Breaks of a head, and where they are accepted its last crossing.
+    fn broken(&self, line: &[u8]) -> Book {
+        let came = self.breaks(line);
+        let after = answered(came, self.book, b" kept");
+        if came.is_ok() {
+            pages::crossing(&after, place(line, State::MAX_HEADS));
+        }
+        after
     }
-    after
-}
 
-// So many breaks of a head, some ticks apart, one where the line names no more than head and clock. A refused one is the last.
-fn breaks(t: Table, s: State, b: Book, line: &[u8]) -> Answer<Book> {
-    let times = find(line, 2).unwrap_or(1);
-    let mut clock: u32 = number(line, 1);
-    let mut after = break_at(t, s, b, line, clock)?;
-    for _ in 1..times {
-        clock = clock.wrapping_add(number(line, 3));
-        after = break_at(t, s, after, line, clock)?;
+    // So many breaks of a head, some ticks apart, one where the line names no more than head and clock. A refused one is the last.
+    fn breaks(&self, line: &[u8]) -> Answer<Book> {
+        let times = find(line, 2).unwrap_or(1);
+        let mut clock: u32 = number(line, 1);
+        let mut after = self.break_at(self.book, line, clock)?;
+        for _ in 1..times {
+            clock = clock.wrapping_add(number(line, 3));
+            after = self.break_at(after, line, clock)?;
+        }
+        Ok(after)
     }
-    Ok(after)
-}
 
-// One break, with the state's clock set.
-fn break_at(t: Table, s: State, b: Book, line: &[u8], clock: u32) -> Answer<Book> {
-    single_beam::break_of(t, State { clock, ..s }, b, number(line, 0))
+    // One break of a book, with the state's clock set.
+    fn break_at(&self, b: Book, line: &[u8], clock: u32) -> Answer<Book> {
+        let s = State {
+            clock,
+            ..self.state
+        };
+        single_beam::break_of(self.table, s, b, number(line, 0))
+    }
 }
 
 // The book with what a line writes over, or as it is where the line only looks, and what its check says of it.

@@ -16,7 +16,7 @@ fn joined(x: u64, digit: u8) -> u64 {
     }
 }
 
-// The number of a line that so many others stand before.
+// The number of a line that so many others stand before, if it has so many.
 pub fn find(line: &[u8], before: usize) -> Option<u64> {
     line.split(|b| !b.is_ascii_digit())
         .filter(|digits| !digits.is_empty())
@@ -45,7 +45,7 @@ impl Width for u64 {
     const LARGEST: u64 = u64::MAX;
 }
 
-// The same at a record's width: the largest number of it where the line's is larger, 0 where there are fewer.
+// That number at a record's width: the largest of it where the line's is larger, 0 where the line has none.
 pub fn number<T: Width>(line: &[u8], before: usize) -> T {
     T::try_from(find(line, before).unwrap_or(0)).unwrap_or(T::LARGEST)
 }

@@ -13,7 +13,7 @@ mod records;
 mod tries;
 
 use book::Book;
-use letters::{letter, number, place};
+use letters::letter;
 use print::{answer, answered, text};
 use rules::{State, Table};
 
@@ -31,10 +31,10 @@ fn sheet(input: &[u8]) {
     let mut bench = Bench {
         table: Table::BLANK,
         state: State::blank(),
-        book: books::blank(),
+        book: books::BLANK,
     };
-    for ended in input.split_inclusive(|&b| b == b'\n') {
-        let line = ended.strip_suffix(b"\n").unwrap_or(ended);
+    for line in input.split_inclusive(|&b| b == b'\n') {
+        let line = line.strip_suffix(b"\n").unwrap_or(line);
         text(line);
         bench.tried(line);
         text(b"\n");
@@ -52,28 +52,22 @@ struct Bench {
 impl Bench {
     // What came of a line. Some kinds of line set the table, the state or the book.
     fn tried(&mut self, line: &[u8]) {
-        let t = self.table;
-        let s = self.state;
         match letter(line, 0) {
             b't' => self.lay(records::table(line)),
-            b'a' => {
-                let mut altered = t;
-                altered.wakes[place(line, State::MAX_HEADS)] = number(line, 1);
-                self.lay(altered);
-            }
+            b'a' => self.lay(records::alter_wake(self.table, line)),
             b's' => {
                 self.state = records::state(line);
-                answer(self.state.check(t));
+                answer(self.state.check(self.table));
             }
-            b'f' => self.state = answered(State::fresh(t), State::blank(), b" blank"),
-            b'b' => self.book = books::next(t, s, self.book, line),
-            b'c' => tries::calendar(t, s, line),
-            b'h' => tries::head(t, s, line),
-            b'j' => tries::judge(t, s, line),
-            b'r' => tries::read(t, s, line),
-            b'w' => tries::write(t, s, line),
-            b'g' => tries::given(t, s, line),
-            b'p' => tries::policy(t, s, line),
+            b'f' => self.state = answered(State::fresh(self.table), State::blank(), b" blank"),
+            b'b' => self.book = self.next_book(line),
+            b'c' => self.calendar(line),
+            b'h' => self.head(line),
+            b'j' => self.judge(line),
+            b'r' => self.read(line),
+            b'w' => self.write(line),
+            b'g' => self.given(line),
+            b'p' => self.policy(line),
             _ => {}
         }
     }

@@ -24,7 +24,7 @@ pub fn answer(v: Verdict) {
     field(b":", verdict_number(v) as u64);
 }
 
-// A record that is told.
+// A record that can be told in numbers.
 pub trait Told: PartialEq + Copy {
     fn tell(self);
 }

@@ -1,7 +1,7 @@
 // The tables and states that the lines of the sheet name.
 ghost use Rattle.std.specs.Prelude.{◌<◌, ◌≤◌};
 
-use crate::letters::{find, number};
+use crate::letters::{find, number, place};
 use rules::{Calendar, Head, Phase, State, Table};
 
 // The numbers before a table line's wakes: N, S, P.
@@ -31,6 +31,13 @@ pub fn table(line: &[u8]) -> Table {
         p: number(line, 2),
         wakes: std::array::from_fn(|k| wake(line, k)),
     }
+}
+
+// The table with one wake set, by a line: head, wake.
+pub fn alter_wake(t: Table, line: &[u8]) -> Table {
+    let mut u = t;
+    u.wakes[place(line, State::MAX_HEADS)] = number(line, 1);
+    u
 }
 
 // The calendar of a line behind some other numbers: hearers, kind, origin, sent, delivery.

@@ -1,7 +1,8 @@
-// What the lines of the sheet try. Behind judge, read and write the second word's first letter says what of.
+// What the lines of the sheet try of tables, states, steps, images and runs. Behind judge, read and write the second word's first letter
+// says what of.
 use crate::letters::{find, letter, number, place};
 use crate::print::{answer, answered, field, record, text};
-use crate::{print, records};
+use crate::{Bench, print, records};
 use rules::{State, Table};
 use runs::Ran;
 use words::{Refusal, Step};
@@ -12,54 +13,104 @@ const ROOM: usize = 300;
 // The bytes of the longest run that is given.
 const MOST_BYTES: usize = 64;
 
-// The state with another calendar.
-pub fn calendar(t: Table, s: State, line: &[u8]) {
-    let u = State {
-        calendar: records::calendar(line, 0),
-        ..s
-    };
-    answer(u.check(t));
-}
+impl Bench {
+    // The state with another calendar.
+    pub fn calendar(&self, line: &[u8]) {
+        let u = State {
+            calendar: records::calendar(line, 0),
+            ..self.state
+        };
+        answer(u.check(self.table));
+    }
 
-// The state with another head at a place.
-pub fn head(t: Table, s: State, line: &[u8]) {
-    let mut u = s;
-    u.heads[place(line, State::MAX_HEADS)] = records::head(line, 1);
-    answer(u.check(t));
-}
+    // The state with another head at a place.
+    pub fn head(&self, line: &[u8]) {
+        let mut u = self.state;
+        u.heads[place(line, State::MAX_HEADS)] = records::head(line, 1);
+        answer(u.check(self.table));
+    }
 
-// A step as the enum and as its two bytes, or two bytes that name no step.
-pub fn judge(t: Table, s: State, line: &[u8]) {
-    match letter(line, 6) {
-        b'p' => {
+    // A step as the enum and as its two bytes, or two bytes that name no step.
+    pub fn judge(&self, line: &[u8]) {
+        match letter(line, 6) {
+            b'p' => self.pair(number(line, 0), number(line, 1), self.state, b" kept"),
+            b'a' => self.step(Step::Advance),
+            b't' => self.step(Step::Timer(number(line, 0))),
+            _ => self.step(Step::Hear(number(line, 0))),
+        }
+    }
+
+    // A step, then the same as its two bytes, beside the state that the step came to.
+    fn step(&self, x: Step) {
+        let came = answered(judge::step(self.table, self.state, x), self.state, b" kept");
+        text(b", pair");
+        self.pair(x.kind(), x.head(), came, b" alike");
+    }
+
+    fn pair(&self, kind: u8, i: u8, known: State, word: &[u8]) {
+        answered(judge::pair(self.table, self.state, kind, i), known, word);
+    }
+
+    // The first bytes of the table's or the state's image, with up to two bytes changed. Where there is no image, they are zero.
+    pub fn read(&self, line: &[u8]) {
+        let what = letter(line, 5);
+        let mut image = [0u8; ROOM];
+        let _ = self.write_to(what, &mut image);
+        change(&mut image, find(line, 1), number(line, 2));
+        change(&mut image, find(line, 3), number(line, 4));
+        if let Some(first) = image.get(..number::<u64>(line, 0) as usize) {
+            self.read_first(what, first);
+        }
+    }
+
+    fn read_first(&self, what: u8, first: &[u8]) {
+        if what == b't' {
+            answered(table_images::read(first), Table::BLANK, b" blank");
+        } else {
             answered(
-                judge::pair(t, s, number(line, 0), number(line, 1)),
-                s,
-                b" kept",
+                state_images::read(self.table, first),
+                State::blank(),
+                b" blank",
             );
         }
-        b'a' => step(t, s, Step::Advance),
-        b't' => step(t, s, Step::Timer(number(line, 0))),
-        _ => step(t, s, Step::Hear(number(line, 0))),
     }
-}
 
-// A step, then the same as its two bytes, beside the state that the step came to.
-fn step(t: Table, s: State, x: Step) {
-    let came = answered(judge::step(t, s, x), s, b" kept");
-    text(b", pair");
-    answered(judge::pair(t, s, x.kind(), x.head()), came, b" alike");
-}
+    // An image or a step list, in a room that holds aa before.
+    pub fn write(&self, line: &[u8]) {
+        let mut bytes = [0xaa; ROOM];
+        if let Some(room) = bytes.get_mut(..number::<u64>(line, 0) as usize) {
+            let w = self.write_to(letter(line, 6), room);
+            print::written(w, room);
+        }
+    }
 
-// The first bytes of the table's or the state's image, with up to two bytes changed.
-pub fn read(t: Table, s: State, line: &[u8]) {
-    let what = letter(line, 5);
-    let mut image = [0u8; ROOM];
-    let _ = write_to(t, s, what, &mut image);
-    change(&mut image, find(line, 1), number(line, 2));
-    change(&mut image, find(line, 3), number(line, 4));
-    if let Some(first) = image.get(..number::<u64>(line, 0) as usize) {
-        read_first(t, what, first);
+    fn write_to(&self, what: u8, room: &mut [u8]) -> Result<usize, Refusal> {
+        match what {
+            b't' => table_images::write(self.table, room),
+            b's' => state_images::write(self.table, self.state, room),
+            _ => runs::open_steps(self.table, self.state, room),
+        }
+    }
+
+    // A run of the steps that a line gives: its numbers, up to the first that is no byte.
+    pub fn given(&self, line: &[u8]) {
+        let pairs: [u8; MOST_BYTES] = std::array::from_fn(|k| number(line, k));
+        let n = (0..MOST_BYTES)
+            .take_while(|&k| matches!(find(line, k), Some(0..=255)))
+            .count();
+        self.ran(runs::run_given(self.table, self.state, &pairs[..n]));
+    }
+
+    pub fn policy(&self, line: &[u8]) {
+        let count = number::<u64>(line, 0) as usize;
+        self.ran(runs::run_policy(self.table, self.state, count));
+    }
+
+    // What a run answered.
+    fn ran(&self, r: Ran) {
+        answer(r.verdict);
+        field(b" accepted", r.accepted as u64);
+        record(r.state, self.state, b" kept");
     }
 }
 
@@ -70,52 +121,4 @@ fn change(image: &mut [u8], at: Option<u64>, to: u8) {
     {
         *byte = to;
     }
-}
-
-fn read_first(t: Table, what: u8, first: &[u8]) {
-    if what == b't' {
-        answered(table_images::read(first), Table::BLANK, b" blank");
-    } else {
-        answered(state_images::read(t, first), State::blank(), b" blank");
-    }
-}
-
-// An image or a step list, in a room that holds aa before.
-pub fn write(t: Table, s: State, line: &[u8]) {
-    let mut bytes = [0xaa; ROOM];
-    if let Some(room) = bytes.get_mut(..number::<u64>(line, 0) as usize) {
-        let w = write_to(t, s, letter(line, 6), room);
-        print::written(w, room);
-    }
-}
-
-fn write_to(t: Table, s: State, what: u8, room: &mut [u8]) -> Result<usize, Refusal> {
-    match what {
-        b't' => table_images::write(t, room),
-        b's' => state_images::write(t, s, room),
-        _ => runs::open_steps(t, s, room),
-    }
-}
-
-// A run of the steps that a line gives.
-pub fn given(t: Table, s: State, line: &[u8]) {
-    let pairs: [u8; MOST_BYTES] = std::array::from_fn(|k| number(line, k));
-    let n = (0..MOST_BYTES).take_while(|&k| is_byte(line, k)).count();
-    ran(s, runs::run_given(t, s, &pairs[..n]));
-}
-
-// Whether a line has a number there, and it is a byte.
-fn is_byte(line: &[u8], before: usize) -> bool {
-    matches!(find(line, before), Some(0..=255))
-}
-
-pub fn policy(t: Table, s: State, line: &[u8]) {
-    ran(s, runs::run_policy(t, s, number::<u64>(line, 0) as usize));
-}
-
-// What a run answered.
-fn ran(given: State, r: Ran) {
-    answer(r.verdict);
-    field(b" accepted", r.accepted as u64);
-    record(r.state, given, b" kept");
 }
