@@ -1,11 +1,6 @@
 -- What a tail, a new entry and a release do to a book, place by place, and which of 18, 20 and 19 is given where.
-use mathlib.Core.Path.{◌≡◌, refl, sym, ap, ◌∙◌}
-use mathlib.Core.Bool.{not}
-use mathlib.Core.Logic.{◌⊎◌, inl, inr}
-use Prim.Native.Nat.{ℕ, ◌-◌}
-use native.Mathlib.Omega.{arith}
-use lib.Dec.{eqb}
-use borrow.Author.Tests.{eqb-false, ltb-true, ne_eqb, le-ltb, lt-ltb, not-true}
+use Rattle.std.proofs.Common.{◌≡◌, refl, sym, ap, ◌∙◌, not, ◌⊎◌, inl, inr, ℕ, ◌-◌, arith, eqb, ltb-true, ne_eqb, le-ltb, lt-ltb}
+use Rattle.std.proofs.lemmas.Bool.{eqb-false, not-true}
 use Rattle.words.specs.declared.Refusal.TheVariants.{NoSuchEntry, NoNumberLeft}
 use Rattle.words.proofs.Order.{unless_is, is_unless, unless_not, unless_gives}
 use Rattle.rules.proofs.Each.{same_or_not, less_or_not, and_true, both}

@@ -1,10 +1,6 @@
 -- A new book meets the rules, and every call keeps them.
-use mathlib.Core.Path.{◌≡◌, refl, sym, ap, ◌∙◌}
-use mathlib.Core.Logic.{inl, inr}
-use mathlib.Core.List.{List}
-use Prim.Native.Nat.{ℕ, ◌≤◌}
-use native.Mathlib.Omega.{arith}
-use lib.ListN.{length-replicate}
+use Rattle.std.proofs.Common.{◌≡◌, refl, sym, ap, ◌∙◌, inl, inr, List, ℕ, ◌≤◌, arith}
+use Rattle.std.proofs.Math.ListN.{length-replicate}
 use Rattle.rules.specs.Limits.{max_heads}
 use Rattle.rules.proofs.Each.{same_or_not}
 use Rattle.book.specs.declared.Book.{Book}

@@ -1,12 +1,6 @@
 -- The tests of a book, of a clock and of a head say just what the conditions say.
-use mathlib.Core.Path.{◌≡◌, sym, ap, ◌∙◌}
-use mathlib.Core.Bool.{Bool, true, false, not, ◌&&◌}
-use mathlib.Core.Logic.{inl, inr}
-use Prim.Native.Nat.{ℕ, ◌-◌, ◌≤◌, ◌<◌}
-use native.Mathlib.Omega.{arith}
-use lib.Dec.{eqb}
-use lib.ListN.{length}
-use borrow.Author.Tests.{eqb-true, eqb-false, leb-true, eq-eqb, ne_eqb, le-leb, not-true}
+use Rattle.std.proofs.Common.{◌≡◌, sym, ap, ◌∙◌, Bool, true, false, not, ◌&&◌, inl, inr, ℕ, ◌-◌, ◌≤◌, ◌<◌, arith, eqb, length, eqb-true, leb-true, eq-eqb, ne_eqb, le-leb}
+use Rattle.std.proofs.lemmas.Bool.{eqb-false, not-true}
 use Rattle.words.specs.declared.Refusal.TheVariants.{HoldRange, BookRule, NotActive}
 use Rattle.words.proofs.Order.{unless_is, is_unless}
 use Rattle.rules.specs.declared.Phase.TheVariants.{Active}

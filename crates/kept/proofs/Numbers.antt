@@ -1,10 +1,7 @@
 -- Numbers rise from one call to the next, none is given twice, and none comes back.
-use mathlib.Core.Path.{◌≡◌, sym, ap, ◌∙◌}
+use Rattle.std.proofs.Common.{◌≡◌, sym, ap, ◌∙◌, List, inl, inr, ℕ, suc, ◌≤◌, ◌<◌, arith}
 use mathlib.Core.List.Memᴰ
-use mathlib.Core.List.{List, Memᴰ}
-use mathlib.Core.Logic.{inl, inr}
-use Prim.Native.Nat.{ℕ, suc, ◌≤◌, ◌<◌}
-use native.Mathlib.Omega.{arith}
+use mathlib.Core.List.{Memᴰ}
 use Rattle.book.specs.declared.Book.{Book}
 use Rattle.book.specs.Book.{no_entry, entry_at, number_in, number_at, last_crossing, place_of}
 use Rattle.book.specs.Calls.{new_entry, tailed, entered, released}

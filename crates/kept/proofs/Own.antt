@@ -1,9 +1,5 @@
 -- An entry whose number a head remembers is that head's, so a tail is filed in its own head's crossing.
-use mathlib.Core.Path.{◌≡◌, sym, ap, ◌∙◌}
-use mathlib.Core.List.{List}
-use mathlib.Core.Logic.{◌⊎◌, inl, inr}
-use Prim.Native.Nat.{ℕ}
-use native.Mathlib.Omega.{arith}
+use Rattle.std.proofs.Common.{◌≡◌, sym, ap, ◌∙◌, List, ◌⊎◌, inl, inr, ℕ, arith}
 use Rattle.rules.proofs.Each.{same_or_not}
 use Rattle.book.specs.declared.Book.{Book}
 use Rattle.book.specs.Rows.{at}

@@ -1,12 +1,6 @@
 -- Laws of places: the place of a number, where a held number stands, and what a tail leaves as it was.
-use mathlib.Core.Path.{◌≡◌, refl, sym, ◌∙◌}
-use mathlib.Core.List.{List}
-use mathlib.Core.Logic.{inl, inr}
-use Prim.Native.Nat.{ℕ, ◌≤◌, ◌<◌}
-use native.Mathlib.Omega.{arith}
-use lib.Dec.{eqb}
-use lib.ListN.{length}
-use borrow.Author.Tests.{eqb-true, eqb-false}
+use Rattle.std.proofs.Common.{◌≡◌, refl, sym, ◌∙◌, List, inl, inr, ℕ, ◌≤◌, ◌<◌, arith, eqb, length, eqb-true}
+use Rattle.std.proofs.lemmas.Bool.{eqb-false}
 use Rattle.rules.proofs.Each.{same_or_not, less_or_not}
 use Rattle.book.specs.declared.Entry.{Entry}
 use Rattle.book.specs.declared.Crossing.{Crossing}

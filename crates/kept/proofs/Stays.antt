@@ -1,7 +1,6 @@
 -- Until its release no call changes an entry's number, head or tick.
-use mathlib.Core.Path.{◌≡◌, refl, sym, ap, ◌∙◌}
-use mathlib.Core.List.{List, Memᴰ}
-use Prim.Native.Nat.{ℕ}
+use Rattle.std.proofs.Common.{◌≡◌, refl, sym, ap, ◌∙◌, List, ℕ}
+use mathlib.Core.List.{Memᴰ}
 use Rattle.book.specs.declared.Entry.{Entry}
 use Rattle.book.specs.declared.Book.{Book}
 use Rattle.book.specs.Book.{no_entry, entry_at, number_in, number_at, last_crossing}

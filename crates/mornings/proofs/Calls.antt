@@ -1,10 +1,5 @@
 -- A call on a single-beam book is accepted exactly where the conditions hold, and each call is one of the changes that every book keeps to.
-use mathlib.Core.Path.{◌≡◌, refl, sym, ◌∙◌}
-use mathlib.Core.Bool.{true, false}
-use mathlib.Core.List.{[]}
-use mathlib.Core.Logic.{inl, inr}
-use Prim.Native.Nat.{ℕ, suc}
-use native.Mathlib.Omega.{arith}
+use Rattle.std.proofs.Common.{◌≡◌, refl, sym, ◌∙◌, true, false, [], inl, inr, ℕ, suc, arith}
 use Rattle.words.specs.declared.Refusal.TheVariants.{TableRange, StateRule}
 use Rattle.words.proofs.Order.{unless_is, is_unless, first_is, is_first, first_last, row_is, is_row}
 use Rattle.rules.specs.declared.State.{State}

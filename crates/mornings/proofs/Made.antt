@@ -1,10 +1,5 @@
 -- What kept proves of rows of changes, said of calls; and a book made by calls is never refused for itself.
-use mathlib.Core.Path.{◌≡◌, refl}
-use mathlib.Core.Bool.{Bool}
-use mathlib.Core.List.{List, [], ◌∷◌}
-use mathlib.Core.Logic.{inl, inr}
-use Prim.Native.Nat.{ℕ, zero, suc}
-use native.Mathlib.Omega.{arith}
+use Rattle.std.proofs.Common.{◌≡◌, refl, Bool, List, [], ◌∷◌, inl, inr, ℕ, zero, suc, arith}
 use Rattle.words.specs.declared.Refusal.{Refusal}
 use Rattle.words.specs.declared.Refusal.TheVariants.{TableRange, StateRule, BeforeLastBreak, NotActive, NoFreePlace, NoSuchEntry, NoNumberLeft}
 use Rattle.words.specs.Refusal.{number_of, unless, first_refusal}

@@ -1,8 +1,5 @@
 -- A morning's state is the one that its steps alone lead to, so demands 2 and 3 stand; its book is the one that its calls alone lead to.
-use mathlib.Core.Path.{◌≡◌, refl}
-use mathlib.Core.Bool.{true}
-use mathlib.Core.List.{List, [], ◌∷◌}
-use mathlib.Core.Logic.{inl, inr}
+use Rattle.std.proofs.Common.{◌≡◌, refl, true, List, [], ◌∷◌, inl, inr}
 use Rattle.words.specs.declared.Step.{Step}
 use Rattle.rules.specs.declared.State.{State}
 use Rattle.rules.specs.declared.Table.{Table}
