@@ -72,6 +72,7 @@ impl Bench {
         }
     }
 
+    // The table that the lines below use, and what its check says.
     fn lay(&mut self, table: Table) {
         self.table = table;
         answer(table.check());
