@@ -10,11 +10,11 @@ mod letters;
 mod pages;
 mod print;
 mod records;
-mod same;
 mod tries;
 
 use book::Book;
-use letters::{letter, line_end};
+use letters::letter;
+use print::{answer, answered, text};
 use rules::{State, Table};
 
 // Standard input, by its number.
@@ -26,68 +26,55 @@ fn main() {
     sheet(&input[..n]);
 }
 
-// Every line of the input in turn. Some kinds of line set the table, the state or the book that the lines below them start from.
+// Every line of the input in turn.
 fn sheet(input: &[u8]) {
-    let mut t = records::no_table();
-    let mut s = State::blank();
-    let mut b = books::blank();
-    let mut at: usize = 0;
-    while at < input.len() {
-        let end = line_end(input, at);
-        let line = &input[at..end];
-        at = end + 1;
-        t = table_then(t, line);
-        s = state_then(t, s, line);
-        b = tell(t, s, b, line);
+    let mut bench = Bench {
+        table: Table::BLANK,
+        state: State::blank(),
+        book: books::BLANK,
+    };
+    for line in input.split_inclusive(|&b| b == b'\n') {
+        let line = line.strip_suffix(b"\n").unwrap_or(line);
+        text(line);
+        bench.tried(line);
+        text(b"\n");
     }
 }
 
-fn table_then(t: Table, line: &[u8]) -> Table {
-    match letter(line, 0) {
-        b't' => records::table(line),
-        b'a' => records::alter_wake(t, line),
-        _ => t,
+// What the lines below start from.
+#[derive(Clone, Copy)]
+struct Bench {
+    table: Table,
+    state: State,
+    book: Book,
+}
+
+impl Bench {
+    // What came of a line. Some kinds of line set the table, the state or the book.
+    fn tried(&mut self, line: &[u8]) {
+        match letter(line, 0) {
+            b't' => self.lay(records::table(line)),
+            b'a' => self.lay(records::alter_wake(self.table, line)),
+            b's' => {
+                self.state = records::state(line);
+                answer(self.state.check(self.table));
+            }
+            b'f' => self.state = answered(State::fresh(self.table), State::blank(), b" blank"),
+            b'b' => self.book = self.next_book(line),
+            b'c' => self.calendar(line),
+            b'h' => self.head(line),
+            b'j' => self.judge(line),
+            b'r' => self.read(line),
+            b'w' => self.write(line),
+            b'g' => self.given(line),
+            b'p' => self.policy(line),
+            _ => {}
+        }
     }
-}
 
-fn state_then(t: Table, s: State, line: &[u8]) -> State {
-    match letter(line, 0) {
-        b's' => records::state(line),
-        b'f' => records::fresh(t),
-        _ => s,
-    }
-}
-
-// What a line tries of a book is told on the way.
-fn book_then(t: Table, s: State, b: Book, line: &[u8]) -> Book {
-    match letter(line, 0) {
-        b'b' => books::next(t, s, b, line),
-        _ => b,
-    }
-}
-
-// A line, and what came of what it tries; the book that the lines below it start from.
-fn tell(t: Table, s: State, b: Book, line: &[u8]) -> Book {
-    print::text(line);
-    tried(t, s, line);
-    let after = book_then(t, s, b, line);
-    print::text(b"\n");
-    after
-}
-
-// What came of a line about tables, states, steps, images or runs.
-fn tried(t: Table, s: State, line: &[u8]) {
-    match letter(line, 0) {
-        b't' | b'a' => print::answer(t.check()),
-        b's' => print::answer(s.check(t)),
-        b'c' => tries::calendar(t, s, line),
-        b'h' => tries::head(t, s, line),
-        b'f' => tries::fresh(t),
-        b'j' => tries::judge(t, s, line),
-        b'r' => tries::read(t, s, line),
-        b'w' => tries::write(t, s, line),
-        b'g' => tries::given(t, s, line),
-        b'p' => tries::policy(t, s, line),
-        _ => {}
+    // The table that the lines below use, and what its check says.
+    fn lay(&mut self, table: Table) {
+        self.table = table;
+        answer(table.check());
     }
 }

@@ -1,74 +1,43 @@
 // What is in a book: how many places are held, where a number stands, and what of a book is told.
-ghost use Rattle.std.specs.Prelude.{◌<◌};
+ghost use Rattle.std.specs.Prelude.{◌<◌, IfSome};
 
-use crate::print::{answer, field, text};
-use crate::same::same_book;
-use book::{Book, Booked, Entry};
+use crate::print::{Told, field, text};
+use book::{Book, Entry};
 
-// How many places are held.
-fn held(places: [Entry; 256]) -> usize {
-    let mut n: usize = 0;
-    let mut k: usize = 0;
-    while k < Book::PLACES {
-        let e = places[k];
-        if e.number != 0 {
-            n += 1;
-        }
-        k += 1;
+// The last number given, the last break and how many places are held.
+impl Told for Book {
+    fn tell(self) {
+        field(b" given", self.given as u64);
+        field(b" last", self.latest as u64);
+        let held = self.places.iter().filter(|e| e.number != 0).count();
+        field(b" held", held as u64);
     }
-    n
 }
 
-// The place, counted from 0, that holds a number, or 256; the sheet looks for itself. Number 0 stands in every free place, and none of
-// them holds it.
-fn holder(places: [Entry; 256], number: u32) -> usize {
-    if number == 0 {
-        return Book::PLACES;
-    }
-    let mut k: usize = 0;
-    while k < Book::PLACES {
-        let e = places[k];
-        if e.number == number {
-            return k;
-        }
-        k += 1;
-    }
-    k
-}
-
-// What a call answered: the number, then a word for the book where it is a known one (the given one, the all-zero one), else the last
-// number given, the last break and how many places are held.
-pub fn told(came: Booked, known: Book, word: &[u8]) {
-    let v = came.verdict;
-    answer(v);
-    let b = came.book;
-    if same_book(b, known) {
-        text(word);
-        return;
-    }
-    field(b" given", b.given as u64);
-    field(b" last", b.latest as u64);
-    let places = b.places;
-    field(b" held", held(places) as u64);
+// The place, counted from 0, that holds a number; the sheet looks for itself. Number 0 stands in every free place, and none of them
+// holds it.
+fn holder(b: &Book, number: u32) -> Option<usize>
+    ensures { IfSome result (λ p. p < 256) }
+{
+    b.places
+        .iter()
+        .position(|e| e.number == number && number != 0)
 }
 
 // What a head remembers, and the place and the entry of it while it is held.
-pub fn crossing(b: Book, k: usize)
+pub fn crossing(b: &Book, k: usize)
     requires { k < 64 }
 {
     let c = b.remembered[k];
     field(b" crossing", c.number as u64);
     field(b" tick", c.tick as u64);
-    let places = b.places;
-    let p = holder(places, c.number);
-    if p < Book::PLACES {
-        entry(b, p);
-    } else {
-        text(b" not held");
+    match holder(b, c.number) {
+        Some(p) => entry(b, p),
+        None => text(b" not held"),
     }
 }
 
-pub fn entry(b: Book, k: usize)
+pub fn entry(b: &Book, k: usize)
     requires { k < 256 }
 {
     let e = b.places[k];

@@ -1,10 +1,6 @@
 // What came, on standard output. Rattle carries every label of a function through its proof, so labels are short and few.
-ghost use Rattle.std.specs.Prelude.{◌<◌};
-
-use crate::same::{is_blank, same_state};
-use rules::{Calendar, Head, Judged, State, Written};
-use table_images::TableRead;
-use words::Verdict;
+use rules::{Calendar, Head, State, Table};
+use words::{Answer, Refusal, Refused, Verdict, verdict_number};
 
 // Standard output, by its number.
 const STDOUT: i32 = 1;
@@ -25,7 +21,51 @@ pub fn field(name: &[u8], x: u64) {
 
 // The number that came, behind what was tried.
 pub fn answer(v: Verdict) {
-    field(b":", v.number() as u64);
+    field(b":", verdict_number(v) as u64);
+}
+
+// A record that can be told in numbers.
+pub trait Told: PartialEq + Copy {
+    fn tell(self);
+}
+
+// A record that came, or a word for it where it is a known one: the given one, the all-zero one, or the one of the same step.
+pub fn record<T: Told>(came: T, known: T, word: &[u8]) {
+    if came == known {
+        text(word);
+    } else {
+        came.tell();
+    }
+}
+
+// What a call answered: the number, then the record, which is handed on.
+pub fn answered<T: Told>(came: Answer<T>, known: T, word: &[u8]) -> T {
+    let (verdict, x) = match came {
+        Ok(x) => (Ok(()), x),
+        Err(Refused { why, back }) => (Err(why), back),
+    };
+    answer(verdict);
+    record(x, known, word);
+    x
+}
+
+// A table that was read, with its first two wakes.
+impl Told for Table {
+    fn tell(self) {
+        field(b" N", self.n as u64);
+        field(b" S", self.s as u64);
+        field(b" P", self.p as u64);
+        field(b" wakes", self.wakes[0] as u64);
+        number(self.wakes[1] as u64);
+    }
+}
+
+impl Told for State {
+    fn tell(self) {
+        field(b" clock", self.clock as u64);
+        calendar(self.calendar);
+        heads(self.n as usize, &self.heads);
+    }
 }
 
 fn calendar(c: Calendar) {
@@ -37,116 +77,37 @@ fn calendar(c: Calendar) {
     field(b" waiting", c.waiting() as u64);
 }
 
-fn head(k: usize, h: Head)
-    requires { k < 64 }
-{
-    let p = h.phase;
-    field(b" head", (k + 1) as u64);
-    number(p.number() as u64);
-    number(p.slot() as u64);
-    number(h.timeout as u64);
-}
-
 // The first three heads in use, and the last: all heads of a small state.
-fn heads(n: u8, places: [Head; 64]) {
-    let mut k: usize = 0;
-    while k < State::MAX_HEADS {
-        if shown(k, n) {
-            head(k, places[k]);
+fn heads(n: usize, places: &[Head]) {
+    for (k, &h) in places.iter().enumerate().take(n) {
+        if k < 3 || k + 1 == n {
+            field(b" head", k as u64 + 1);
+            number(h.phase.number() as u64);
+            number(h.phase.slot() as u64);
+            number(h.timeout as u64);
         }
-        k += 1;
     }
-}
-
-fn shown(k: usize, n: u8) -> bool
-    requires { k < 64 }
-{
-    if k < 3 {
-        return k < n as usize;
-    }
-    k + 1 == n as usize
-}
-
-// The state that came, or a word for it where it is a known one: the given one, the all-zero one, or the one of the same step.
-pub fn state(s: State, known: State, word: &[u8]) {
-    if same_state(s, known) {
-        text(word);
-        return;
-    }
-    field(b" clock", s.clock as u64);
-    let c = s.calendar;
-    calendar(c);
-    let h = s.heads;
-    heads(s.n, h);
-}
-
-// What a step, a fresh state or a reader answered.
-pub fn judged(j: Judged, known: State, word: &[u8]) {
-    let v = j.verdict;
-    answer(v);
-    let s = j.state;
-    state(s, known, word);
-}
-
-// The table that a reader answered, with its first two wakes.
-pub fn table(got: TableRead) {
-    let v = got.verdict;
-    answer(v);
-    let t = got.table;
-    if is_blank(t) {
-        text(b" blank");
-    } else {
-        numbers(t.n, t.s, t.p, t.wakes[0], t.wakes[1]);
-    }
-}
-
-fn numbers(n: u8, s: u16, p: u16, a: u32, b: u32) {
-    field(b" N", n as u64);
-    field(b" S", s as u64);
-    field(b" P", p as u64);
-    field(b" wakes", a as u64);
-    number(b as u64);
 }
 
 // What a writer answered, with its room.
-pub fn written(w: Written, bytes: &[u8]) {
-    let v = w.verdict;
-    answer(v);
-    field(b" bytes", w.bytes as u64);
+pub fn written(w: Result<usize, Refusal>, bytes: &[u8]) {
+    answer(w.map(|_| ()));
+    field(b" bytes", w.unwrap_or(0) as u64);
     room(bytes);
-}
-
-// A room's first bytes, or that it holds aa throughout, as it did before.
-fn room(room: &[u8]) {
-    if untouched(room) {
-        text(b" untouched");
-        return;
-    }
-    text(b" room");
-    let mut k: usize = 0;
-    while k < room.len() {
-        byte(k, room[k]);
-        k += 1;
-    }
 }
 
 // How many bytes of a room are told: the longest step list that the sheet tries.
 const TOLD: usize = 128;
 
-fn byte(k: usize, x: u8) {
-    if k < TOLD {
+// A room's first bytes, or that it holds aa throughout, as it did before.
+fn room(room: &[u8]) {
+    if room.iter().all(|&b| b == 0xaa) {
+        text(b" untouched");
+        return;
+    }
+    text(b" room");
+    for &b in room.iter().take(TOLD) {
         text(b" ");
-        io::print_hex(STDOUT, x as u64, 2);
+        io::print_hex(STDOUT, b as u64, 2);
     }
-}
-
-fn untouched(room: &[u8]) -> bool {
-    let mut k: usize = 0;
-    while k < room.len() {
-        if room[k] != 0xaa {
-            return false;
-        }
-        k += 1;
-    }
-    true
 }
