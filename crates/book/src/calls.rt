@@ -22,24 +22,21 @@ impl Book {
 
     // The book after such a tail, counted in the entry that holds the crossing, and nowhere if that was released.
     #[tactic(auto, unfolding(crate::specs::Calls::tailed, crate::specs::Calls::counted, crate::specs::Calls::one_more, crate::specs::Rows::put), using(crate::proofs::Rows::at_before))]
-    pub fn tailed(self, head: u8, clock: u32) -> Book
+    pub fn tailed(mut self, head: u8, clock: u32) -> Book
         requires { (1 ≤ head) × (head ≤ max_heads) }
         ensures { result ≡ tailed self head clock }
     {
         let c = self.remembered[head as usize - 1];
-        let mut b = Book {
-            latest: clock,
-            ..self
-        };
         if let Some(p) = find(&self.places, c.number) {
-            b.places[p].tails = b.places[p].tails.saturating_add(1);
+            self.places[p].tails = self.places[p].tails.saturating_add(1);
         }
-        b
+        self.latest = clock;
+        self
     }
 
     // The book with a new entry for a head's crossing at a tick, in the lowest free place; or 18 or 20.
     #[tactic(auto, unfolding(crate::specs::Calls::entry_refusal, crate::specs::Calls::place_refusal, crate::specs::Calls::number_refusal, crate::specs::Calls::entered, crate::specs::Calls::book_after, crate::specs::Rows::put, words::specs::Refusal::first_refusal, words::specs::Refusal::unless), using(crate::proofs::Rows::put_before))]
-    pub fn enter(self, head: u8, tick: u32, clock: u32) -> Answer<Book>
+    pub fn enter(mut self, head: u8, tick: u32, clock: u32) -> Answer<Book>
         requires { (1 ≤ head) × (head ≤ max_heads) }
         ensures { Answers result (entry_refusal self) (book_after self (entered self head tick clock) (entry_refusal self)) }
     {
@@ -50,19 +47,16 @@ impl Book {
             return Err(Refusal::NoNumberLeft.with(self));
         }
         let number = self.given + 1;
-        let mut b = Book {
-            given: number,
-            latest: clock,
-            ..self
-        };
-        b.remembered[head as usize - 1] = Crossing { number, tick };
-        b.places[p] = Entry {
+        self.given = number;
+        self.latest = clock;
+        self.remembered[head as usize - 1] = Crossing { number, tick };
+        self.places[p] = Entry {
             number,
             tick,
             head,
             tails: 0,
         };
-        Ok(b)
+        Ok(self)
     }
 
     // Frees the place of an entry, by its number; or 15, 25 or 19.
@@ -78,14 +72,13 @@ impl Book {
 
     // The same of a book that is known to fit. Its last number stays the last, whatever is released: no number is given again.
     #[tactic(auto, unfolding(crate::specs::Calls::held_refusal, crate::specs::Calls::released, crate::specs::Calls::book_after, crate::specs::Rows::put, words::specs::Refusal::unless))]
-    fn release_fit(self, number: u32) -> Answer<Book>
+    fn release_fit(mut self, number: u32) -> Answer<Book>
         ensures { Answers result (held_refusal self number) (book_after self (released self number) (held_refusal self number)) }
     {
         match find(&self.places, number) {
             Some(p) if number != 0 => {
-                let mut b = self;
-                b.places[p] = Entry::FREE;
-                Ok(b)
+                self.places[p] = Entry::FREE;
+                Ok(self)
             }
             _ => Err(Refusal::NoSuchEntry.with(self)),
         }
