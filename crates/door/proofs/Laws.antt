@@ -7,6 +7,7 @@ use Rattle.words.specs.Pair.{step_of}
 use Rattle.words.proofs.Order.{number_some, first_some, first_none, first_last}
 use Rattle.rules.specs.declared.State.{State}
 use Rattle.rules.specs.declared.Table.{Table}
+use Rattle.rules.specs.declared.fit.Fit.{Fit}
 use Rattle.rules.specs.Limits.{max_heads}
 use Rattle.rules.specs.Room.{Wrote}
 use Rattle.rules.specs.Table.{table_fits}
@@ -24,7 +25,6 @@ use Rattle.runs.specs.Chosen.{longest_run, policy, policy_from}
 use Rattle.runs.proofs.Laws.{on_stops, on_goes, fit, still_fits}
 use Rattle.runs.proofs.Plays.{run_fit, run_keeps}
 use Rattle.runs.proofs.Chooses.{policy_runs}
-use Rattle.door.specs.declared.Opened.{Opened}
 use Rattle.door.specs.Answers.{answer, state_of, open_refusal, judge_refusal, judged_state, given_outcome, policy_outcome, Played}
 
 -- a refusal that is handed on: no byte is written
@@ -67,46 +67,46 @@ module _ (tb sb : List ℕ) where
 
 -- ---- a table and a state that were read
 
-module _ (both : Opened) where
-  checked : record_refusal both.table both.state ≡ 0
-  checked = sym (record_accepted both.table both.state both.table_fits both.state_fits)
+module _ (pair : Fit) where
+  checked : record_refusal pair.table pair.state ≡ 0
+  checked = sym (record_accepted pair.table pair.state pair.table_fits pair.state_fits)
 
-  given_fits : (pairs : List ℕ) → run both.table both.state pairs ≡ run_from both.table both.state 0 pairs
-  given_fits pairs = run_fit both.table both.state both.table_fits both.state_fits pairs
+  given_fits : (pairs : List ℕ) → run pair.table pair.state pairs ≡ run_from pair.table pair.state 0 pairs
+  given_fits pairs = run_fit pair.table pair.state pair.table_fits pair.state_fits pairs
 
-  policy_fits : (count : ℕ) → policy both.table both.state count ≡ policy_from both.table both.state 0 (min count longest_run)
+  policy_fits : (count : ℕ) → policy pair.table pair.state count ≡ policy_from pair.table pair.state 0 (min count longest_run)
   unfolding policy
-  policy_fits count = sym (fit both.table both.state _ checked)
+  policy_fits count = sym (fit pair.table pair.state _ checked)
 
   -- what is played from them has no more heads than there are places
-  pub judge_few : (x : Step) (next : State) → 0 ≡ step_refusal both.table both.state x → next ≡ state_after both.table both.state x (step_refusal both.table both.state x) → next.n ≤ max_heads
+  pub judge_few : (x : Step) (next : State) → 0 ≡ step_refusal pair.table pair.state x → next ≡ state_after pair.table pair.state x (step_refusal pair.table pair.state x) → next.n ≤ max_heads
   unfolding state_after
-  judge_few x next q a = few_heads both.table next both.table_fits (still_fits both.table both.state next x both.table_fits both.state_fits (sym q) (rw (← q) at a))
+  judge_few x next q a = few_heads pair.table next pair.table_fits (still_fits pair.table pair.state next x pair.table_fits pair.state_fits (sym q) (rw (← q) at a))
 
-  pub given_few : (pairs : List ℕ) (o : Outcome) → o ≡ run_from both.table both.state 0 pairs → o.state.n ≤ max_heads
-  given_few pairs o q = few_heads both.table o.state both.table_fits (rw (q ∙ sym (given_fits pairs)) (run_keeps both.table both.state pairs both.table_fits both.state_fits))
+  pub given_few : (pairs : List ℕ) (o : Outcome) → o ≡ run_from pair.table pair.state 0 pairs → o.state.n ≤ max_heads
+  given_few pairs o q = few_heads pair.table o.state pair.table_fits (rw (q ∙ sym (given_fits pairs)) (run_keeps pair.table pair.state pairs pair.table_fits pair.state_fits))
 
-  pub policy_few : (count : ℕ) (o : Outcome) → o ≡ policy_from both.table both.state 0 (min count longest_run) → o.state.n ≤ max_heads
-  policy_few count o q = few_heads both.table o.state both.table_fits (rw (q ∙ sym (policy_fits count) ∙ policy_runs both.table both.state count) (run_keeps both.table both.state _ both.table_fits both.state_fits))
+  pub policy_few : (count : ℕ) (o : Outcome) → o ≡ policy_from pair.table pair.state 0 (min count longest_run) → o.state.n ≤ max_heads
+  policy_few count o q = few_heads pair.table o.state pair.table_fits (rw (q ∙ sym (policy_fits count) ∙ policy_runs pair.table pair.state count) (run_keeps pair.table pair.state _ pair.table_fits pair.state_fits))
 
   -- and is what is played from the two images
-  module _ (tb sb : List ℕ) (z : 0 ≡ open_refusal tb sb) (e : (both.table ≡ read_table tb) × (both.state ≡ state_of tb sb)) where
+  module _ (tb sb : List ℕ) (z : 0 ≡ open_refusal tb sb) (e : (pair.table ≡ read_table tb) × (pair.state ≡ state_of tb sb)) where
     module _ (kind i : ℕ) (x : Step) (p : x ≡ step_of kind i) where
-      by_step : refusal (read_table tb) (state_of tb sb) (step_of kind i) ≡ step_refusal both.table both.state x
-      by_step = (λ j. refusal (sym e.0 j) (sym e.1 j) (sym p j)) ∙ refusal_step both.table both.state x checked
+      by_step : refusal (read_table tb) (state_of tb sb) (step_of kind i) ≡ step_refusal pair.table pair.state x
+      by_step = (λ j. refusal (sym e.0 j) (sym e.1 j) (sym p j)) ∙ refusal_step pair.table pair.state x checked
 
-      pub judge_number : (n : ℕ) → n ≡ step_refusal both.table both.state x → n ≡ judge_refusal tb sb kind i
+      pub judge_number : (n : ℕ) → n ≡ step_refusal pair.table pair.state x → n ≡ judge_refusal tb sb kind i
       unfolding judge_refusal
       judge_number n q = q ∙ sym (first_none _ _ (sym z) ∙ first_last _ ∙ by_step)
 
-      pub judge_state : (next : State) → next ≡ state_after both.table both.state x (step_refusal both.table both.state x) → judged_state tb sb kind i ≡ next
+      pub judge_state : (next : State) → next ≡ state_after pair.table pair.state x (step_refusal pair.table pair.state x) → judged_state tb sb kind i ≡ next
       unfolding judged
       judge_state next q = (λ j. state_after (sym e.0 j) (sym e.1 j) (sym p j) (by_step j)) ∙ sym q
 
-    pub given_ran : (pairs : List ℕ) → given_outcome tb sb pairs ≡ run_from both.table both.state 0 pairs
+    pub given_ran : (pairs : List ℕ) → given_outcome tb sb pairs ≡ run_from pair.table pair.state 0 pairs
     unfolding given_outcome
     given_ran pairs = on_goes _ 0 _ _ (sym z) ∙ ap₂ (λ t s. run t s pairs) (sym e.0) (sym e.1) ∙ given_fits pairs
 
-    pub policy_ran : (count : ℕ) → policy_outcome tb sb count ≡ policy_from both.table both.state 0 (min count longest_run)
+    pub policy_ran : (count : ℕ) → policy_outcome tb sb count ≡ policy_from pair.table pair.state 0 (min count longest_run)
     unfolding policy_outcome
     policy_ran count = on_goes _ 0 _ _ (sym z) ∙ ap₂ (λ t s. policy t s count) (sym e.0) (sym e.1) ∙ policy_fits count

@@ -15,21 +15,12 @@ ghost use Rattle.runs.specs.Listing.{list_image};
 ghost use Rattle.runs.specs.Run.{told};
 ghost use Rattle.door.specs.Answers.{answer, state_of, open_refusal, judge_refusal, judged_state, given_outcome, policy_outcome, Handed, Played};
 
-use rules::{State, Table};
+use rules::{Fit, State};
 use runs::Ran;
 use words::{Refusal, Step};
 
 // 2^56: what is left of sixty-four bits above the refusal number's byte.
 const COUNT_PLACES: u64 = 1 << 56;
-
-// What the two images of a call hold.
-#[derive(Clone, Copy)]
-struct Opened {
-    table: Table,
-    state: State,
-    ghost table_fits: { table_fits table ≡ true },
-    ghost state_fits: { state_fits table state ≡ true },
-}
 
 // The fresh state of a table.
 #[unsafe(no_mangle)]
@@ -62,7 +53,7 @@ pub extern "C" fn vt_given(table: &[u8], state: &[u8], pairs: &[u8], room: &mut 
     ensures { Played result (given_outcome table.now state.now pairs.now) room.old room.new }
 {
     match read_both(table, state) {
-        Ok(both) => played(runs::run_given_fit(both.table, both.state, pairs), room),
+        Ok(fit) => played(runs::run_given_fit(fit, pairs), room),
         Err(why) => answer(Err(why), 0),
     }
 }
@@ -74,7 +65,7 @@ pub extern "C" fn vt_policy(table: &[u8], state: &[u8], count: usize, room: &mut
     ensures { Played result (policy_outcome table.now state.now count) room.old room.new }
 {
     match read_both(table, state) {
-        Ok(both) => played(runs::run_policy_fit(both.table, both.state, count), room),
+        Ok(fit) => played(runs::run_policy_fit(fit, count), room),
         Err(why) => answer(Err(why), 0),
     }
 }
@@ -91,27 +82,26 @@ fn fresh(table: &[u8], room: &mut [u8]) -> Result<usize, Refusal>
 fn judge(table: &[u8], state: &[u8], kind: u8, head: u8, room: &mut [u8]) -> Result<usize, Refusal>
     ensures { Wrote result (judge_refusal table.now state.now kind head) (state_image (judged_state table.now state.now kind head)) room.old room.new }
 {
-    let both = read_both(table, state)?;
-    let next = steps::attempt(both.table, both.state, Step::read(kind, head))?;
+    let fit = read_both(table, state)?;
+    let next = steps::attempt(fit, Step::read(kind, head))?;
     state_images::write_fit(next, room)
 }
 
 fn list(table: &[u8], state: &[u8], room: &mut [u8]) -> Result<usize, Refusal>
     ensures { Wrote result (open_refusal table.now state.now) (list_image (read_table table.now) (state_of table.now state.now)) room.old room.new }
 {
-    let both = read_both(table, state)?;
-    runs::open_steps_fit(both.table, both.state, room)
+    runs::open_steps_fit(read_both(table, state)?, room)
 }
 
 // The table and the state of two images, or the refusal of one of them.
 #[tactic(auto, using(crate::proofs::Laws::no_table, crate::proofs::Laws::with_table, table_images::proofs::TableRound::read_table_fits, state_images::proofs::StateRound::read_state_fits))]
-fn read_both(table: &[u8], state: &[u8]) -> Result<Opened, Refusal>
+fn read_both(table: &[u8], state: &[u8]) -> Result<Fit, Refusal>
     ensures number { verdict_number result ≡ open_refusal table.now state.now }
-    ensures records { IfOk result (λ both. (both.table ≡ read_table table.now) × (both.state ≡ state_of table.now state.now)) }
+    ensures records { IfOk result (λ fit. (fit.table ≡ read_table table.now) × (fit.state ≡ state_of table.now state.now)) }
 {
     let t = table_images::read(table)?;
     let s = state_images::read_fit(t, state)?;
-    Ok(Opened { table: t, state: s })
+    Ok(Fit { table: t, state: s })
 }
 
 // A run's answer: it counts the steps accepted, whatever the number.
