@@ -1,10 +1,19 @@
 -- What one more step makes of a run under way.
-use Rattle.std.specs.Prelude.{◌≡◌, Result}
+use Rattle.std.specs.Prelude.{◌≡◌, ℕ, Result}
 use Rattle.words.specs.declared.Step.{Step}
+use Rattle.words.specs.declared.Step.TheVariants.{Advance, Timer, Hear}
 use Rattle.words.specs.declared.Refusal.{Refusal}
 use Rattle.words.specs.Refusal.{verdict_number}
+use Rattle.rules.specs.declared.State.{State}
+use Rattle.rules.specs.declared.Table.{Table}
 use Rattle.rules.specs.Judge.{step_refusal, state_after}
 use Rattle.runs.specs.declared.run.Run.{Run}
+
+-- what refuses a timer or a hearing
+abbrev pub head_refusal : Table → State → Step → ℕ
+head_refusal t s Advance = 0
+head_refusal t s (Timer i) = step_refusal t s (Timer i)
+head_refusal t s (Hear i) = step_refusal t s (Hear i)
 
 -- its verdict, and the table and the state after it: "a refused step returns the given state"
 pub record Stepped (x : Step) (before after : Run) (verdict : Result (Unit {0}) Refusal) : Type 0 where

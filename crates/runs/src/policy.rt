@@ -25,7 +25,7 @@ pub fn run_policy_fit(fit: Fit, count: usize) -> Ran
     policy_from(fit, count.min(Ran::LONGEST))
 }
 
-// What the search finds is due; only an advance can be refused, by the ceiling. A step leaves nothing due at heads below the one that
+// What the search finds is due, so it is taken without another test; only an advance can be refused, by the ceiling. A step leaves nothing due at heads below the one that
 // moved, so the next search starts there.
 fn policy_from(fit: Fit, count: usize) -> Ran
     ensures { told result ≡ policy_from fit.table fit.state 0 count }
@@ -34,7 +34,7 @@ fn policy_from(fit: Fit, count: usize) -> Ran
     let mut from: usize = 0;
     for taken in 0..count {
         let x = run.first_due(from);
-        let Ok(()) = run.step(x) else {
+        let Ok(()) = run.take(x) else {
             return stopped(run.state, taken, Ok(()));
         };
         from = place(x.head());

@@ -1,10 +1,12 @@
 // A run under way. The state is kept in place and its timeouts beside it, so that a search runs over numbers alone and a step stores only
 // what it changes; the ghost facts say that the record checks need not be made again. A step is compiled into each of the two loops that
 // make one: as a call it takes half as long again.
-ghost use Rattle.std.specs.Prelude.{◌≡◌, ◌≤◌, true, []};
+ghost use Rattle.std.specs.Prelude.{◌≡◌, ◌≤◌, true, [], Ok};
+ghost use Rattle.words.specs.Refusal.{verdict_number};
 ghost use Rattle.words.specs.Pair.{head_number};
 ghost use Rattle.rules.specs.Table.{table_fits};
 ghost use Rattle.rules.specs.State.{state_fits};
+ghost use Rattle.rules.specs.Judge.{step_refusal};
 ghost use Rattle.steps.specs.Parts.{place, timeouts};
 ghost use Rattle.runs.specs.Open.{open_to, first_due};
 
@@ -24,7 +26,7 @@ pub struct Run {
 }
 
 impl Run {
-    ghost use Rattle.runs.specs.Stepped.{Stepped};
+    ghost use Rattle.runs.specs.Stepped.{head_refusal, Stepped};
 
     pub fn on(fit: Fit) -> Run
         ensures table { result.table ≡ fit.table }
@@ -57,10 +59,44 @@ impl Run {
     pub fn step(&mut self, x: Step) -> Verdict
         ensures { Stepped x self.old self.new result }
     {
+        self.head_verdict(x)?;
+        self.take(x)
+    }
+
+    // What refuses a timer or a hearing.
+    #[inline(always)]
+    #[tactic(auto, using(steps::proofs::Parts::place_below))]
+    fn head_verdict(&self, x: Step) -> Verdict
+        ensures { verdict_number result ≡ head_refusal self.now.table self.now.state x }
+    {
+        match x {
+            Step::Advance => Ok(()),
+            Step::Timer(i) => timing::verdict(
+                self.table,
+                self.state.clock,
+                self.state.heads[place(i)],
+                i,
+            ),
+            Step::Hear(i) => hearing::verdict(self.table, self.state.clock, self.state.calendar, i),
+        }
+    }
+
+    // The same of a timer or a hearing that nothing refuses, as the search finds them; an advance is tested as it is made.
+    #[inline(always)]
+    pub fn take(&mut self, x: Step) -> Verdict
+        requires { head_refusal self.old.table self.old.state x ≡ 0 }
+        ensures { Stepped x self.old self.new result }
+    {
         match x {
             Step::Advance => self.advance(),
-            Step::Timer(i) => self.timer(i),
-            Step::Hear(i) => self.hear(i),
+            Step::Timer(i) => {
+                self.timer(i);
+                Ok(())
+            }
+            Step::Hear(i) => {
+                self.hear(i);
+                Ok(())
+            }
         }
     }
 
@@ -76,37 +112,35 @@ impl Run {
 
     #[inline(always)]
     #[tactic(auto, using(steps::proofs::Parts::place_below))]
-    fn timer(&mut self, i: u8) -> Verdict
-        ensures { Stepped (Step.Timer i) self.old self.new result }
+    fn timer(&mut self, i: u8)
+        requires { step_refusal self.old.table self.old.state (Step.Timer i) ≡ 0 }
+        ensures { Stepped (Step.Timer i) self.old self.new (Ok tt) }
     {
         let t = self.table;
         let clock = self.state.clock;
         let at = place(i);
         let head = self.state.heads[at];
-        timing::verdict(t, clock, head, i)?;
         let frame = timing::timer_frame(t, i, head.phase);
         self.state.calendar = sending::sends(t, clock, frame, i, self.state.calendar);
         let moved = timing::timer_head(t, clock, i, head.phase);
         self.state.heads[at] = moved;
         self.due[at] = moved.timeout;
-        Ok(())
     }
 
     #[inline(always)]
     #[tactic(auto, using(steps::proofs::Parts::place_below))]
-    fn hear(&mut self, i: u8) -> Verdict
-        ensures { Stepped (Step.Hear i) self.old self.new result }
+    fn hear(&mut self, i: u8)
+        requires { step_refusal self.old.table self.old.state (Step.Hear i) ≡ 0 }
+        ensures { Stepped (Step.Hear i) self.old self.new (Ok tt) }
     {
         let t = self.table;
         let clock = self.state.clock;
         let frame = self.state.calendar;
-        hearing::verdict(t, clock, frame, i)?;
         let at = place(i);
         let head = self.state.heads[at];
         let moved = hearing::hear_head(t, clock, i, frame, head);
         self.state.calendar = sending::left(frame, i);
         self.state.heads[at] = moved;
         self.due[at] = moved.timeout;
-        Ok(())
     }
 }

@@ -17,6 +17,6 @@ returns-in_err-of c =
 
 pub returns : goal.returns
 returns c =
-  let t = IfOk-at_ok (λ f. f.table ≡ c.args.t) c.in_ok-of.was c.of.ensures.table in
-  let s = IfOk-at_ok (λ f. f.state ≡ c.args.s) c.in_ok-of.was c.of.ensures.state in
-  rw (accepted_zero c.of.result _ _ c.of.ensures.number c.in_ok-of.was) (rw (t, s) at c.open_steps_fit.ensures)
+    let t = IfOk-at_ok (λ f. f.table ≡ c.args.t) c.in_ok-of.was c.of.ensures.table in
+    let s = IfOk-at_ok (λ f. f.state ≡ c.args.s) c.in_ok-of.was c.of.ensures.state in
+    rw (accepted_zero c.of.result _ _ c.of.ensures.number c.in_ok-of.was) (rw (t, s) at c.open_steps_fit.ensures)
