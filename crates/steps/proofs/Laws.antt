@@ -12,8 +12,8 @@ least_of : (es : List ℕ) (k : ℕ) → k < length es → fold (λ a e. min a e
 unfolding least
 least_of es zero l = omega arith
 least_of es (suc k) l =
-  let q = take-suc (drop 1 es) k 0 (let d = length-drop 1 es in omega arith) in
-  rw (q, fold-append (λ a e. min a e) (get_or es 0 0) (take k (drop 1 es)) (get_or (drop 1 es) k 0 ∷ []), least_of es k (omega arith), get_or_after_one es k 0) (let p : 1 + k ≡ suc k = omega arith in rw p refl)
+    let q = take-suc (drop 1 es) k 0 (let d = length-drop 1 es in omega arith) in
+    rw (q, fold-append (λ a e. min a e) (get_or es 0 0) (take k (drop 1 es)) (get_or (drop 1 es) k 0 ∷ []), least_of es k (omega arith), get_or_after_one es k 0) (let p : 1 + k ≡ suc k = omega arith in rw p refl)
 
 pub least_fold : (es : List ℕ) (n : ℕ) → 1 ≤ n → n ≤ length es → fold (λ a e. min a e) (get_or es 0 0) (slice_range es 1 n) ≡ least es n
 least_fold es zero l m = absurd (omega arith)

@@ -19,8 +19,8 @@ verdict-requires c = let m = table_meets c.args.t c.requires.0 in m.heads
 
 pub returns-in-Err : goal.returns-in-Err
 returns-in-Err c =
-  let r = answer_refused _ _ _ _ (c.verdict.ensures ∙ same_refusal _ _ c.requires.0 c.requires.1 _ _ _ _ _ c.head.ensures c.place-at.ensures c.timeouts-all.ensures c.clock_after-later.ensures) (refused_some c.verdict.result _ _ refl c.in-Err.is) in
-  (rw c.with.ensures.why (sym (ap verdict_number c.in-Err.is) ∙ r.0), c.with.ensures.back ∙ r.1)
+    let r = answer_refused _ _ _ _ (c.verdict.ensures ∙ same_refusal _ _ c.requires.0 c.requires.1 _ _ _ _ _ c.head.ensures c.place-at.ensures c.timeouts-all.ensures c.clock_after-later.ensures) (refused_some c.verdict.result _ _ refl c.in-Err.is) in
+    (rw c.with.ensures.why (sym (ap verdict_number c.in-Err.is) ∙ r.0), c.with.ensures.back ∙ r.1)
 
 pub calendar_after-next-requires : goal.calendar_after-next-requires
 calendar_after-next-requires c = let z = sym (same_refusal _ _ c.requires.0 c.requires.1 _ _ _ _ _ c.head.ensures c.place-at.ensures c.timeouts-all.ensures c.clock_after-later.ensures) ∙ accepted_zero c.verdict.result _ _ c.verdict.ensures (search rules) in ready _ _ c.requires.0 c.requires.1 _ z
