@@ -19,17 +19,17 @@ returns-in_default c = let w = c.loop-taken in c.stopped.ensures ∙ policy_stop
 
 pub loop-taken-preserved : goal.loop-taken-preserved
 loop-taken-preserved c =
-  let w = c.loop-taken in
-  let m = c.loop-taken-test.true in
-  let x = c.first_due-x.ensures in
-  let p = c.place-from.ensures ∙ ap place c.head.ensures in
-  let go = policy_goes w.run c.step.new.self w.taken c.args.count w.invariant.3 m _ x.first c.step.result c.step.ensures _ c.in-Ok.is in
-  let within = found_within w.run c.step.new.self w.taken c.args.count w.invariant.3 m _ x.first c.step.result c.step.ensures _ c.in-Ok.is in
-  let quiet = quiet_below w.run c.step.new.self w.taken c.args.count w.invariant.3 m _ x.first c.step.result c.step.ensures _ c.in-Ok.is x.quiet in
-  (omega arith, rw p within, rw p quiet, go)
+    let w = c.loop-taken in
+    let m = c.loop-taken-test.true in
+    let x = c.first_due-x.ensures in
+    let p = c.place-from.ensures ∙ ap place c.head.ensures in
+    let go = policy_goes w.run c.step.new.self w.taken c.args.count w.invariant.3 m _ x.first c.step.result c.step.ensures _ c.in-Ok.is in
+    let within = found_within w.run c.step.new.self w.taken c.args.count w.invariant.3 m _ x.first c.step.result c.step.ensures _ c.in-Ok.is in
+    let quiet = quiet_below w.run c.step.new.self w.taken c.args.count w.invariant.3 m _ x.first c.step.result c.step.ensures _ c.in-Ok.is x.quiet in
+    (omega arith, rw p within, rw p quiet, go)
 
 pub returns : goal.returns
 returns c =
-  let w = c.loop-taken in
-  let e : w.taken ≡ c.args.count = omega arith in
-  c.stopped-2.ensures ∙ ap (λ k. stopped w.run.state k 0) (sym e) ∙ policy_done w.run.table w.run.state w.run.table_fits w.run.state_fits w.taken c.args.count w.invariant.3 (omega arith)
+    let w = c.loop-taken in
+    let e : w.taken ≡ c.args.count = omega arith in
+    c.stopped-2.ensures ∙ ap (λ k. stopped w.run.state k 0) (sym e) ∙ policy_done w.run.table w.run.state w.run.table_fits w.run.state_fits w.taken c.args.count w.invariant.3 (omega arith)
