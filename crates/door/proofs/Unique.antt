@@ -1,5 +1,5 @@
 -- One answer: whatever two answers a public function's contract admits for the same arguments are equal, and so is the lent room.
-use mathlib.Core.Path.{◌≡◌, sym, ◌∙◌}
+use Rattle.std.proofs.Common.{◌≡◌, sym, ◌∙◌}
 use borrow.Fn.Kinds as K
 use contract.Lifetimes.{Lfts}
 use Rattle.door.proofs.vt_fresh.Reads as fresh

@@ -56,6 +56,7 @@ pub extern "C" fn vt_list(table: &[u8], state: &[u8], room: &mut [u8]) -> u64
 }
 
 // A run of given steps.
+#[tactic(auto, using(crate::proofs::Laws::given_ran, crate::proofs::Laws::given_few))]
 #[unsafe(no_mangle)]
 pub extern "C" fn vt_given(table: &[u8], state: &[u8], pairs: &[u8], room: &mut [u8]) -> u64
     ensures { Played result (given_outcome table.now state.now pairs.now) room.old room.new }
@@ -67,6 +68,7 @@ pub extern "C" fn vt_given(table: &[u8], state: &[u8], pairs: &[u8], room: &mut 
 }
 
 // A run by the fixed policy.
+#[tactic(auto, using(crate::proofs::Laws::policy_ran, crate::proofs::Laws::policy_few))]
 #[unsafe(no_mangle)]
 pub extern "C" fn vt_policy(table: &[u8], state: &[u8], count: usize, room: &mut [u8]) -> u64
     ensures { Played result (policy_outcome table.now state.now count) room.old room.new }
@@ -77,6 +79,7 @@ pub extern "C" fn vt_policy(table: &[u8], state: &[u8], count: usize, room: &mut
     }
 }
 
+#[tactic(auto, using(crate::proofs::Laws::fresh_few))]
 fn fresh(table: &[u8], room: &mut [u8]) -> Result<usize, Refusal>
     ensures { Wrote result (read_table_refusal table.now) (state_image (fresh (read_table table.now))) room.old room.new }
 {
@@ -84,6 +87,7 @@ fn fresh(table: &[u8], room: &mut [u8]) -> Result<usize, Refusal>
     state_images::write_fit(State::fresh_fit(t), room)
 }
 
+#[tactic(auto, using(crate::proofs::Laws::judge_number, crate::proofs::Laws::judge_few, crate::proofs::Laws::judge_state))]
 fn judge(table: &[u8], state: &[u8], kind: u8, head: u8, room: &mut [u8]) -> Result<usize, Refusal>
     ensures { Wrote result (judge_refusal table.now state.now kind head) (state_image (judged_state table.now state.now kind head)) room.old room.new }
 {
@@ -100,6 +104,7 @@ fn list(table: &[u8], state: &[u8], room: &mut [u8]) -> Result<usize, Refusal>
 }
 
 // The table and the state of two images, or the refusal of one of them.
+#[tactic(auto, using(crate::proofs::Laws::no_table, crate::proofs::Laws::with_table, table_images::proofs::TableRound::read_table_fits, state_images::proofs::StateRound::read_state_fits))]
 fn read_both(table: &[u8], state: &[u8]) -> Result<Opened, Refusal>
     ensures number { verdict_number result ≡ open_refusal table.now state.now }
     ensures records { IfOk result (λ both. (both.table ≡ read_table table.now) × (both.state ≡ state_of table.now state.now)) }
