@@ -1,6 +1,6 @@
 // The door for C and Rust: a few functions on numbers and byte slices, each from a table image and, all but one, a state image. They
 // read the images once, do what the crates below do on records that fit, and write a state's image or the step list into lent room; the
-// header vapourtrack.h tells a caller the rest. It uses words, rules, table_images, state_images, steps and runs; its proofs use octets.
+// header vapourtrack.h tells a caller the rest. It uses words, rules, table_images, state_images, steps and runs.
 #![tactic(auto)]
 
 ghost use Rattle.std.specs.Prelude.{◌≡◌, ◌≤◌, true, IfOk};
@@ -70,6 +70,7 @@ pub extern "C" fn vt_policy(table: &[u8], state: &[u8], count: usize, room: &mut
     }
 }
 
+// What vt_fresh, vt_judge and vt_list write, or why they refuse.
 #[tactic(auto, using(crate::proofs::Laws::fresh_few))]
 fn fresh(table: &[u8], room: &mut [u8]) -> Result<usize, Refusal>
     ensures { Wrote result (read_table_refusal table.now) (state_image (fresh (read_table table.now))) room.old room.new }
