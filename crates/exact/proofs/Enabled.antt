@@ -1,10 +1,6 @@
 -- A step is accepted just when it is enabled, on a table and a state that fit.
-use mathlib.Core.Path.{◌≡◌, refl, ap}
-use mathlib.Core.Bool.{false, not}
-use mathlib.Core.Logic.{inl, inr}
-use Prim.Native.Nat.{ℕ, ◌≤◌}
-use native.Mathlib.Omega.{arith}
-use borrow.Author.Tests.{eqb-true, leb-true, eq-eqb, ne_eqb, le-leb, not-true}
+use Rattle.std.proofs.Common.{◌≡◌, refl, ap, false, not, inl, inr, ℕ, ◌≤◌, arith, eqb-true, leb-true, eq-eqb, ne_eqb, le-leb}
+use borrow.Author.Tests.{not-true}
 use Rattle.words.specs.declared.Step.{Step}
 use Rattle.words.specs.declared.Step.TheVariants.{Advance, Timer, Hear}
 use Rattle.words.specs.declared.Refusal.TheVariants.{TableRange, StateRule, NoSuchStep, SomethingDue, TimerNotDue, NotHearing, PastCeiling, OwnFrame}

@@ -1,11 +1,6 @@
 -- An accepted step keeps the state rules, from every state that fits; a refused one returns the given state.
-use mathlib.Core.Path.{refl, sym, ap, subst, ◌∙◌}
-use mathlib.Core.Logic.{inl, inr}
-use Prim.Native.Nat.{ℕ, ◌≤◌}
-use native.Mathlib.Omega.{arith}
-use lib.Dec.{eqb, ltb}
-use lib.ListN.{length-map}
-use borrow.Author.Tests.{ltb-true, ne_eqb}
+use Rattle.std.proofs.Common.{refl, sym, ap, subst, ◌∙◌, inl, inr, ℕ, ◌≤◌, arith, eqb, ltb, ltb-true, ne_eqb}
+use Rattle.std.proofs.Math.ListN.{length-map}
 use Rattle.words.specs.declared.Step.{Step}
 use Rattle.words.specs.declared.Step.TheVariants.{Advance, Timer, Hear}
 use Rattle.rules.specs.declared.Phase.{Phase}

@@ -1,7 +1,5 @@
 -- A judged step is the record checks' refusal, or the attempt's answer where there is none.
-use mathlib.Core.Path.{◌≡◌, sym, ap, ◌∙◌}
-use Prim.Native.Nat.{ℕ}
-use borrow.Author.Tests.{ne_eqb}
+use Rattle.std.proofs.Common.{◌≡◌, sym, ap, ◌∙◌, ℕ, ne_eqb}
 use Rattle.words.specs.declared.Step.{Step}
 use Rattle.rules.specs.declared.State.{State}
 use Rattle.rules.specs.declared.Table.{Table}

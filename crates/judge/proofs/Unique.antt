@@ -1,5 +1,5 @@
 -- Each contract leaves one answer: any two that it admits are equal. Stated of the contracts as the check reads them, not of a copy.
-use mathlib.Core.Path.{◌≡◌}
+use Rattle.std.proofs.Common.{◌≡◌}
 use borrow.Fn.Kinds as K
 use Rattle.judge.proofs.step.Reads as step
 use Rattle.judge.proofs.step.Kinds as step-kinds

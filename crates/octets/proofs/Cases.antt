@@ -1,6 +1,6 @@
 -- What the readers and the writers of both images have in common, case by case: each return of a function cites one law.
 use Rattle.std.proofs.Common.{◌≡◌, sym, ap, ◌∙◌, ℕ, ◌≤◌, List, length, Result, Ok, Err, MatchResult, ne_eqb, arith}
-use Rattle.std.specs.Result.{IsErrAnd}
+use Rattle.std.proofs.Common.{IsErrAnd}
 use Rattle.words.specs.declared.Refusal.{Refusal}
 use Rattle.words.specs.declared.answers.Refused.{Refused}
 use Rattle.words.specs.Refusal.{number_of}

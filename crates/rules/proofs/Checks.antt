@@ -1,14 +1,5 @@
 -- The record checks and the fresh state, case by case and in the code's own terms: each return of a function cites one law.
-use mathlib.Core.Path.{◌≡◌, sym, ◌∙◌}
-use mathlib.Core.Bool.{true, false}
-use mathlib.Core.Logic.{inl, inr}
-use mathlib.Core.List.{List, [], map}
-use Prim.Native.Nat.{ℕ, zero, suc, ◌+◌, ◌-◌, ◌≤◌}
-use native.Mathlib.Numerals.{add-one}
-use native.Mathlib.Omega.{arith}
-use lib.Dec.{leb}
-use lib.ListN.{get_or}
-use borrow.Author.Tests.{leb-true}
+use Rattle.std.proofs.Common.{◌≡◌, sym, ◌∙◌, true, false, inl, inr, List, [], map, ℕ, zero, suc, ◌+◌, ◌-◌, ◌≤◌, add-one, arith, leb, get_or, leb-true}
 use Rattle.words.specs.declared.Step.{Step}
 use Rattle.words.specs.declared.Refusal.TheVariants.{TableRange, StateRule}
 use Rattle.words.specs.Refusal.{number_of, unless}

@@ -2,7 +2,7 @@
 use Rattle.std.proofs.Common.{◌≡◌, refl, sym, ◌∙◌, Bool, true, false, ◌&&◌, ◌||◌, ◌⊎◌, inl, inr, ℕ, zero, suc, ◌+◌, ◌-◌, ◌≤◌, ◌<◌, leb, List, [], ◌∷◌, length, get_or, add-one, arith}
 use Rattle.std.specs.List.{list_all, enumerate_from}
 use native.Mathlib.Decide.{ℕ_discrete, dec_lt}
-use borrow.Author.Tests.{leb-true, le-leb}
+use Rattle.std.proofs.Common.{leb-true, le-leb}
 use Rattle.rules.specs.Each.{between, every, some}
 
 -- ---- the two cases of a comparison

@@ -1,11 +1,6 @@
 -- A loop that fills a row place by place, each with f of what stands there in another: as far as it has come, one place more, all of it.
-use mathlib.Core.Path.{◌≡◌, sym, ◌∙◌}
-use mathlib.Core.Logic.{inl, inr}
-use mathlib.Core.List.{List, map}
-use Prim.Native.Nat.{ℕ, ◌+◌, ◌≤◌, ◌<◌}
-use native.Mathlib.Omega.{arith}
-use lib.ListN.{length, get_or, set, length-set, length-map, get_or-map}
-use lib.Seq.{get_or-set_same, get_or-set_other, ext_get_or}
+use Rattle.std.proofs.Common.{◌≡◌, sym, ◌∙◌, inl, inr, List, map, ℕ, ◌+◌, ◌≤◌, ◌<◌, arith, length, get_or, set, length-set, get_or-set_same, get_or-set_other, ext_get_or}
+use Rattle.std.proofs.Math.ListN.{length-map, get_or-map}
 use Rattle.rules.proofs.Each.{same_or_not}
 
 -- the first k of the n places of ys are filled from xs; `none` stands where xs has no place

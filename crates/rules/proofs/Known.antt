@@ -1,7 +1,5 @@
 -- What passing a record by value tells: a table has its sixty-four wake places and a state its sixty-four head places.
-use mathlib.Core.Path.{◌≡◌}
-use mathlib.Core.List.{List}
-use lib.ListN.{length}
+use Rattle.std.proofs.Common.{◌≡◌, List, length}
 use mir.Val.{Val}
 use denote.Laws.{Is}
 use denote.Struct.Declared.{row}

@@ -1,14 +1,8 @@
 -- The tests of a table and of a state say just what the conditions say.
-use mathlib.Core.Path.{◌≡◌, refl, sym, ap, ◌∙◌}
-use mathlib.Core.Bool.{Bool, true, false, cond, not}
-use mathlib.Core.Logic.{inl, inr}
-use mathlib.Core.List.{List}
-use Prim.Native.Nat.{ℕ, zero, suc, ◌+◌, ◌*◌, ◌^◌, ◌≤◌, ◌<◌}
-use native.Mathlib.Omega.{arith}
-use lib.Dec.{eqb, leb}
-use lib.ListN.{length, get_or-eq_default}
-use borrow.Author.Tests.{eqb-true, eqb-false, ltb-true, leb-true, eq-eqb, ne_eqb, lt-ltb, le-leb, lt-leb, not-true}
-use lib.Pow.{le_ones, lt_of_le_ones}
+use Rattle.std.proofs.Common.{◌≡◌, refl, sym, ap, ◌∙◌, Bool, true, false, cond, not, inl, inr, List, ℕ, zero, suc, ◌+◌, ◌*◌, ◌^◌, ◌≤◌, ◌<◌, arith, eqb, leb, length, eqb-true, ltb-true, leb-true, eq-eqb, ne_eqb, lt-ltb, le-leb, lt_of_le_ones}
+use Rattle.std.proofs.Math.ListN.{get_or-eq_default}
+use borrow.Author.Tests.{eqb-false, lt-leb, not-true}
+use Rattle.std.proofs.Math.Pow.{le_ones}
 use Rattle.hearers.specs.Set.{has, everyone}
 use Rattle.hearers.proofs.Laws.{has_head, has_above, none_above, has_none}
 use Rattle.rules.specs.declared.Phase.{Phase}

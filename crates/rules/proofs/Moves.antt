@@ -1,16 +1,8 @@
 -- What the parts of a step do, head by head: head places, calendars, and the instants that the clock may come to.
 -- The theorems about steps, here and in other crates, cite these laws.
-use mathlib.Core.Path.{◌≡◌, refl, sym, ap, subst, ◌∙◌}
-use mathlib.Core.Bool.{true, false, not, ◌&&◌}
-use mathlib.Core.List.{List}
-use mathlib.Core.Logic.{◌⊎◌, inl, inr}
-use Prim.Native.Nat.{ℕ, zero, suc, ◌+◌, ◌≤◌}
-use native.Mathlib.Omega.{arith}
-use lib.Dec.{eqb}
-use lib.Pow.{pow_pos}
-use lib.ListN.{length, length-set, get_or-map}
-use lib.Seq.{get_or-set_same, get_or-set_other}
-use borrow.Author.Tests.{eqb-true, eqb-false, eq-eqb, ne_eqb, not-true}
+use Rattle.std.proofs.Common.{◌≡◌, refl, sym, ap, subst, ◌∙◌, true, false, not, ◌&&◌, List, ◌⊎◌, inl, inr, ℕ, zero, suc, ◌+◌, ◌≤◌, arith, eqb, pow_pos, length, length-set, get_or-set_same, get_or-set_other, eqb-true, eq-eqb, ne_eqb}
+use Rattle.std.proofs.Math.ListN.{get_or-map}
+use borrow.Author.Tests.{eqb-false, not-true}
 use Rattle.hearers.specs.Set.{has, without, everyone, all_but}
 use Rattle.hearers.proofs.Laws.{has_head, has_above, has_some, without_same, without_other, without_le, everyone_in}
 use Rattle.rules.specs.declared.Phase.TheVariants.{Init}

@@ -1,11 +1,6 @@
 -- A writer into lent room, case by case: refused for what it is given, refused for short room, or done.
-use mathlib.Core.Path.{◌≡◌, sym, ◌∙◌}
-use mathlib.Core.List.{List, ◌++◌}
-use Prim.Native.Nat.{ℕ, ◌≤◌, ◌<◌}
-use native.Mathlib.Omega.{arith}
-use lib.ListN.{length, drop}
-use borrow.Author.Tests.{ne_eqb, le-leb, lt-leb}
-use Rattle.std.specs.Prelude.{Err}
+use Rattle.std.proofs.Common.{◌≡◌, sym, ◌∙◌, List, ◌++◌, ℕ, ◌≤◌, ◌<◌, arith, length, drop, ne_eqb, le-leb, Err}
+use borrow.Author.Tests.{lt-leb}
 use Rattle.words.specs.declared.Refusal.{Refusal}
 use Rattle.words.specs.declared.Refusal.TheVariants.{ShortRoom}
 use Rattle.words.specs.Refusal.{number_of, unless, first_refusal}

@@ -1,7 +1,5 @@
 -- How large the waits of a table can be: they fit thirty-two bits whatever the table holds, and stay small where it fits.
-use Prim.Native.Nat.{ℕ, ◌*◌, ◌≤◌}
-use native.Mathlib.Nat.{mul-le-mul}
-use native.Mathlib.Omega.{arith}
+use Rattle.std.proofs.Common.{ℕ, ◌*◌, ◌≤◌, mul-le-mul, arith}
 use Rattle.rules.specs.declared.Table.{Table}
 use Rattle.rules.specs.Table.{round, offset}
 use Rattle.rules.specs.State.{listen_wait, coldstart_wait}

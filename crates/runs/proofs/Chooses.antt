@@ -1,10 +1,6 @@
 -- Runs by the policy: they are the runs of the steps that it chose.
-use mathlib.Core.Path.{◌≡◌, refl, sym, ap, subst, ◌∙◌}
-use mathlib.Core.Bool.{true}
-use mathlib.Core.List.{List, [], ◌∷◌, Memᴰ}
-use mathlib.Core.Logic.{inl, inr}
-use Prim.Native.Nat.{ℕ, zero, suc, ◌+◌, ◌≤◌, ◌<◌, min}
-use native.Mathlib.Omega.{arith}
+use Rattle.std.proofs.Common.{◌≡◌, refl, sym, ap, subst, ◌∙◌, true, List, [], ◌∷◌, inl, inr, ℕ, zero, suc, ◌+◌, ◌≤◌, ◌<◌, min, arith}
+use mathlib.Core.List.{Memᴰ}
 use Rattle.words.specs.declared.Step.{Step}
 use Rattle.words.specs.declared.Step.TheVariants.{Advance, Timer, Hear}
 use Rattle.words.specs.Pair.{kind_of, head_number, step_of}

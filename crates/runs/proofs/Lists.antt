@@ -1,10 +1,5 @@
 -- The step list, case by case and in the code's own terms: each return of a function cites one law.
-use mathlib.Core.Path.{◌≡◌, refl, sym, ap, subst, ◌∙◌}
-use mathlib.Core.Bool.{true}
-use mathlib.Core.List.{List, [], ◌∷◌, ◌++◌}
-use Prim.Native.Nat.{ℕ, ◌≤◌, ◌<◌}
-use native.Mathlib.Omega.{arith}
-use lib.ListN.{length, take, drop}
+use Rattle.std.proofs.Common.{◌≡◌, refl, sym, ap, subst, ◌∙◌, true, List, [], ◌∷◌, ◌++◌, ℕ, ◌≤◌, ◌<◌, arith, length, take, drop, Ok, Err}
 use Rattle.words.specs.declared.Step.{Step}
 use Rattle.words.specs.declared.Step.TheVariants.{Advance}
 use Rattle.words.specs.declared.Refusal.TheVariants.{ShortRoom}
@@ -20,7 +15,6 @@ use Rattle.runs.specs.Open.{only_if, open_to, open_steps, step_bytes}
 use Rattle.rules.specs.Room.{write_refusal, Wrote}
 use Rattle.rules.proofs.Rooms.{write_fits, wrote_short, wrote_image}
 use Rattle.runs.specs.Listing.{list_image}
-use Rattle.std.specs.Prelude.{Ok, Err}
 use Rattle.steps.specs.Parts.{timeouts, instant}
 use Rattle.steps.proofs.Parts.{instant_is}
 use Rattle.runs.specs.Gathered.{Holds, Adds}

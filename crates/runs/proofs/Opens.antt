@@ -1,13 +1,8 @@
 -- The step list holds the steps that the judged step accepts, and no other; each once, and in its order.
-use mathlib.Core.Path.{◌≡◌, refl, sym, ap, subst, ◌∙◌}
-use mathlib.Core.Bool.{Bool, true, false, ◌&&◌}
+use Rattle.std.proofs.Common.{◌≡◌, refl, sym, ap, subst, ◌∙◌, Bool, true, false, ◌&&◌, List, [], ◌∷◌, ◌++◌, ◌⊎◌, inl, inr, ℕ, zero, suc, ◌≤◌, ◌<◌, arith, eqb, leb, eqb-true, leb-true, eq-eqb, le-leb}
 use mathlib.Core.List.Memᴰ
-use mathlib.Core.List.{List, [], ◌∷◌, ◌++◌, Memᴰ}
-use mathlib.Core.Logic.{◌⊎◌, inl, inr}
-use Prim.Native.Nat.{ℕ, zero, suc, ◌≤◌, ◌<◌}
-use native.Mathlib.Omega.{arith}
-use lib.Dec.{eqb, leb}
-use borrow.Author.Tests.{eqb-true, leb-true, eq-eqb, le-leb, lt-leb}
+use mathlib.Core.List.{Memᴰ}
+use borrow.Author.Tests.{lt-leb}
 use Rattle.words.specs.declared.Step.{Step}
 use Rattle.words.specs.declared.Step.TheVariants.{Advance, Timer, Hear}
 use Rattle.words.specs.Pair.{head_number}
@@ -242,9 +237,9 @@ first_free t s p q x e = rw e (go (open_to s t.n) refl)
     go : (l : List Step) → open_to s t.n ≡ l → head_refusal t s (first_or Advance (open_to s t.n)) ≡ 0
     go [] z = rw z refl
     go (y ∷ rest) z =
-      let f = table_meets t p in
-      let m = state_meets t s f.heads q in
-      rw z (free t s y (open_accepted t s f m y (subst (Memᴰ y) (sym (open_due t s f m y rest z ∙ z)) (Memᴰ.head refl))))
+        let f = table_meets t p in
+        let m = state_meets t s f.heads q in
+        rw z (free t s y (open_accepted t s f m y (subst (Memᴰ y) (sym (open_due t s f m y rest z ∙ z)) (Memᴰ.head refl))))
 
 pub search_first : SearchFirst
 search_first t s x rest p q e =

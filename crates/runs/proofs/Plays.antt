@@ -1,13 +1,5 @@
 -- Runs of given steps: what their answer tells, and a run of a list in two parts.
-use mathlib.Core.Path.{◌≡◌, refl, sym, ap, subst, ◌∙◌}
-use mathlib.Core.Bool.{true}
-use mathlib.Core.List.{List, [], ◌∷◌, ◌++◌}
-use mathlib.Core.Logic.{inl, inr}
-use Prim.Native.Nat.{ℕ, suc, ◌+◌, ◌-◌, ◌*◌}
-use native.Mathlib.Numerals.{one-add}
-use native.Mathlib.Omega.{arith}
-use lib.ListN.{length}
-use borrow.Author.Tests.{ne_eqb}
+use Rattle.std.proofs.Common.{◌≡◌, refl, sym, ap, subst, ◌∙◌, true, List, [], ◌∷◌, ◌++◌, inl, inr, ℕ, suc, ◌+◌, ◌-◌, ◌*◌, one-add, arith, length, ne_eqb}
 use Rattle.words.specs.declared.Step.{Step}
 use Rattle.words.specs.declared.Refusal.TheVariants.{NoSuchStep}
 use Rattle.words.specs.Refusal.{number_of}

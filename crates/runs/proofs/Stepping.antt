@@ -1,6 +1,6 @@
 -- One more step of a run under way: refused, it leaves all as it was; accepted, it goes on to the next state.
 use Rattle.std.proofs.Common.{◌≡◌, refl, sym, ap, ◌∙◌, ℕ, true, Result, Ok, Err, get_or, set}
-use borrow.Author.Tests.{ne_eqb}
+use Rattle.std.proofs.Common.{ne_eqb}
 use Rattle.words.specs.declared.Step.{Step}
 use Rattle.words.specs.declared.Step.TheVariants.{Advance, Timer, Hear}
 use Rattle.words.specs.declared.Refusal.{Refusal}

@@ -1,6 +1,6 @@
 -- A turn of each loop: what a step makes of a run, and what is left of the run after it.
 use Rattle.std.proofs.Common.{◌≡◌, refl, sym, ap, ◌∙◌, ℕ, ◌+◌, ◌-◌, ◌≤◌, ◌<◌, List, [], ◌∷◌, length, get_or, take, drop, take_all, Result, Ok, Err, add-one, arith}
-use borrow.Author.Tests.{ne_eqb}
+use Rattle.std.proofs.Common.{ne_eqb}
 use Rattle.words.specs.declared.Step.{Step}
 use Rattle.words.specs.declared.Refusal.{Refusal}
 use Rattle.words.specs.declared.Refusal.TheVariants.{NoSuchStep}

@@ -1,5 +1,5 @@
 -- Each contract leaves one answer and one content of the room: any two that it admits are equal. Stated of the contracts as the check reads them, not of a copy.
-use mathlib.Core.Path.{◌≡◌, sym, ap, ◌∙◌}
+use Rattle.std.proofs.Common.{◌≡◌, sym, ap, ◌∙◌}
 use borrow.Fn.Kinds as K
 use contract.Lifetimes.{Lfts}
 use Rattle.words.proofs.Order.{verdict_one}

@@ -1,5 +1,5 @@
 -- The bench sheet, by computation.
-use mathlib.Core.Path.{refl}
+use Rattle.std.proofs.Common.{refl}
 use Rattle.hearers.specs.Set.{has, alone, without, all_but}
 use Rattle.words.specs.Refusal.{unless, first_refusal}
 use Rattle.words.specs.Pair.{step_of}

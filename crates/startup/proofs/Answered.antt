@@ -1,8 +1,5 @@
 -- A run of given steps comes to the state of a run of accepted steps, so demand 3 holds of it; and a policy run is such a run.
-use mathlib.Core.Path.{◌≡◌, sym, subst}
-use mathlib.Core.Bool.{true}
-use mathlib.Core.List.{List, [], ◌∷◌, ◌++◌}
-use Prim.Native.Nat.{ℕ, min}
+use Rattle.std.proofs.Common.{◌≡◌, sym, subst, true, List, [], ◌∷◌, ◌++◌, ℕ, min}
 use Rattle.words.specs.declared.Step.{Step}
 use Rattle.words.specs.Pair.{step_of}
 use Rattle.rules.specs.declared.State.{State}

@@ -1,8 +1,5 @@
 -- From Cold to Live: the first head hears a frame in coldstart and joins.
-use Prim.Native.Nat.{ℕ, ◌+◌, ◌*◌, ◌≤◌, ◌<◌}
-use mathlib.Core.Path.{◌≡◌, refl, sym, ◌∙◌, ap}
-use mathlib.Core.Logic.{inl, inr}
-use native.Mathlib.Omega.{arith}
+use Rattle.std.proofs.Common.{ℕ, ◌+◌, ◌*◌, ◌≤◌, ◌<◌, ◌≡◌, refl, sym, ◌∙◌, ap, inl, inr, arith}
 use Rattle.rules.proofs.Each.{same_or_not, less_or_not}
 use Rattle.startup.specs.World.{Tab, In, Fit, round, distance, World, Joins, Alone, Hears}
 use Rattle.startup.proofs.Laws.{split, first_in, distance_far, distance_two}

@@ -1,8 +1,5 @@
 -- Steps from Cold: to Cold, and to Live when the first head in coldstart hears a frame.
-use Prim.Native.Nat.{ℕ, ◌+◌, ◌*◌, ◌≤◌, ◌<◌}
-use mathlib.Core.Path.{◌≡◌, refl}
-use mathlib.Core.Logic.{◌⊎◌, inl, inr}
-use native.Mathlib.Omega.{arith}
+use Rattle.std.proofs.Common.{ℕ, ◌+◌, ◌*◌, ◌≤◌, ◌<◌, ◌≡◌, refl, ◌⊎◌, inl, inr, arith}
 use Rattle.rules.proofs.Each.{same_or_not, less_or_not}
 use Rattle.startup.specs.World.{Tab, In, Fit, round, offset, World, Still, taken, dropped, Listens, Coldstarts, Turns, Ignores, Follows, Alone, Move, advance, listens, coldstarts, turns, speaks, ignores, follows, joins}
 use Rattle.startup.proofs.Laws.{split, offset_top, offset_step, offset_one, round_one, listener_wait_lem, first_in, another}

@@ -1,8 +1,5 @@
 -- Steps from Live: always to Live. The slot moves on with the first active head that turns, the witness with the head that sends.
-use Prim.Native.Nat.{ℕ, ◌+◌, ◌≤◌, ◌<◌}
-use mathlib.Core.Path.{◌≡◌, refl, sym, ◌∙◌, ap}
-use mathlib.Core.Logic.{inl, inr}
-use native.Mathlib.Omega.{arith}
+use Rattle.std.proofs.Common.{ℕ, ◌+◌, ◌≤◌, ◌<◌, ◌≡◌, refl, sym, ◌∙◌, ap, inl, inr, arith}
 use Rattle.rules.proofs.Each.{same_or_not, less_or_not}
 use Rattle.startup.specs.World.{Tab, In, Fit, round, next_slot, distance, World, Still, SameCalendar, Taken, Sent, taken, dropped, Listens, Coldstarts, Turns, Ignores, Follows, Joins, Alone, Move, advance, listens, coldstarts, turns, speaks, ignores, follows, joins}
 use Rattle.startup.proofs.Laws.{split, round_one, listener_wait_lem, distance_top, distance_next}

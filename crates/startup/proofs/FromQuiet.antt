@@ -1,8 +1,5 @@
 -- Steps from Quiet: to Quiet, and to Cold by the first coldstart frame.
-use Prim.Native.Nat.{ℕ, ◌+◌, ◌*◌, ◌≤◌}
-use mathlib.Core.Path.{◌≡◌, refl}
-use mathlib.Core.Logic.{inl, inr}
-use native.Mathlib.Omega.{arith}
+use Rattle.std.proofs.Common.{ℕ, ◌+◌, ◌*◌, ◌≤◌, ◌≡◌, refl, inl, inr, arith}
 use Rattle.rules.proofs.Each.{same_or_not}
 use Rattle.startup.specs.World.{Tab, Fit, round, World, taken, dropped, Coldstarts, Alone, Hears, Move, advance, listens, coldstarts, turns, speaks, ignores, follows, joins}
 use Rattle.startup.proofs.Laws.{first_in, offset_one}

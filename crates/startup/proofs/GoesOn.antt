@@ -1,9 +1,5 @@
 -- No run is stuck: some step is accepted, unless the one to come is an advance past the ceiling.
-use mathlib.Core.Path.{◌≡◌}
-use mathlib.Core.Bool.{true, false}
-use mathlib.Core.List.{List}
-use mathlib.Core.Logic.{◌⊎◌, inl, inr}
-use Prim.Native.Nat.{◌<◌}
+use Rattle.std.proofs.Common.{◌≡◌, true, false, List, ◌⊎◌, inl, inr, ◌<◌}
 use borrow.Author.Tests.{lt-leb}
 use Rattle.words.specs.declared.Step.{Step}
 use Rattle.words.specs.declared.Step.TheVariants.{Advance, Timer, Hear}

@@ -1,10 +1,5 @@
 -- Demand 3, proved: every state of every run from power-up is in step.
-use Prim.Native.Nat.{ℕ, zero, suc, ◌+◌, ◌≤◌}
-use mathlib.Core.Path.{◌≡◌, refl, sym, ap, subst, ◌∙◌}
-use mathlib.Core.Bool.{false}
-use mathlib.Core.List.{List, [], ◌∷◌}
-use mathlib.Core.Logic.{◌⊎◌, inl, inr}
-use native.Mathlib.Omega.{arith}
+use Rattle.std.proofs.Common.{ℕ, zero, suc, ◌+◌, ◌≤◌, ◌≡◌, refl, sym, ap, subst, ◌∙◌, false, List, [], ◌∷◌, ◌⊎◌, inl, inr, arith}
 use Rattle.hearers.proofs.Laws.{has_none}
 use Rattle.words.specs.declared.Step.{Step}
 use Rattle.rules.specs.declared.Phase.{Phase}

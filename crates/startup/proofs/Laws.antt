@@ -1,10 +1,5 @@
 -- The arithmetic of slots and rounds: all that the proof knows of products and of `next_slot`.
-use Prim.Native.Nat.{ℕ, ◌+◌, ◌*◌, ◌-◌, ◌≤◌, ◌<◌}
-use mathlib.Core.Path.{◌≡◌, ap}
-use mathlib.Core.Logic.{inl, inr}
-use native.Mathlib.Omega.{arith}
-use native.Mathlib.Nat.{mul-le-mul_right}
-use borrow.Author.Tests.{eq-eqb, ne_eqb, lt-ltb, le-ltb}
+use Rattle.std.proofs.Common.{ℕ, ◌+◌, ◌*◌, ◌-◌, ◌≤◌, ◌<◌, ◌≡◌, ap, inl, inr, arith, mul-le-mul_right, eq-eqb, ne_eqb, lt-ltb, le-ltb}
 use Rattle.rules.proofs.Each.{same_or_not, less_or_not}
 use Rattle.startup.specs.World.{Tab, In, Fit, round, offset, next_slot, slots_between, distance, listener_wait}
 

@@ -1,10 +1,6 @@
 -- The program's tables and states as the numbers that the proof is about, and the one link: an enabled step is a move.
-use Prim.Native.Nat.{ℕ, ◌+◌, ◌*◌, ◌≤◌}
-use mathlib.Core.Path.{◌≡◌, refl, sym, ap, subst, ◌∙◌}
-use mathlib.Core.Bool.{false, cond}
-use mathlib.Core.Logic.{inl, inr}
-use native.Mathlib.Omega.{arith}
-use borrow.Author.Tests.{eqb-false, lt-ltb, le-ltb, eq-eqb, ne_eqb}
+use Rattle.std.proofs.Common.{ℕ, ◌+◌, ◌*◌, ◌≤◌, ◌≡◌, refl, sym, ap, subst, ◌∙◌, false, cond, inl, inr, arith, lt-ltb, le-ltb, eq-eqb, ne_eqb}
+use borrow.Author.Tests.{eqb-false}
 use Rattle.hearers.specs.Set.{has}
 use Rattle.hearers.proofs.Laws.{has_low, has_none}
 use Rattle.words.specs.declared.Step.{Step}

@@ -1,8 +1,5 @@
 -- The invariant of runs, and what demand 3 asks of it: all active heads agree, and all heads are active by W + 3R + S + P, hence by six rounds.
-use Prim.Native.Nat.{ℕ, ◌+◌, ◌*◌, ◌≤◌, ◌<◌}
-use mathlib.Core.Path.{◌≡◌}
-use mathlib.Core.Logic.{◌⊎◌, inl, inr}
-use native.Mathlib.Omega.{arith}
+use Rattle.std.proofs.Common.{ℕ, ◌+◌, ◌*◌, ◌≤◌, ◌<◌, ◌≡◌, ◌⊎◌, inl, inr, arith}
 use Rattle.rules.proofs.Each.{same_or_not, less_or_not}
 use Rattle.startup.specs.World.{Tab, In, Fit, round, World, Idle, Move}
 use Rattle.startup.proofs.Laws.{offset_top, round_two}

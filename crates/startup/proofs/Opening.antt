@@ -1,7 +1,5 @@
 -- The taking of a coldstart frame, from Quiet or from Cold: the one way into Cold with a new last sender.
-use Prim.Native.Nat.{ℕ, ◌+◌, ◌*◌, ◌≤◌, ◌<◌}
-use mathlib.Core.Path.{◌≡◌}
-use native.Mathlib.Omega.{arith}
+use Rattle.std.proofs.Common.{ℕ, ◌+◌, ◌*◌, ◌≤◌, ◌<◌, ◌≡◌, arith}
 use Rattle.startup.specs.World.{Tab, In, Fit, round, World, Taken, Coldstarts, Alone}
 use Rattle.startup.proofs.Laws.{split}
 use Rattle.startup.proofs.Phases.{FirstLate, ColdHead, Cold, in_window}

@@ -1,8 +1,6 @@
 -- The three phases of a run: Quiet (nobody has started), Cold (somebody is in coldstart, nobody active), Live (somebody is active or joins now).
 -- Every fact speaks of one head, beside fixed ones: head 1, the last sender, and in Live a witness, the head whose next frame lets the others join.
-use Prim.Native.Nat.{ℕ, ◌+◌, ◌*◌, ◌≤◌, ◌<◌}
-use mathlib.Core.Path.{◌≡◌, ap}
-use native.Mathlib.Omega.{arith}
+use Rattle.std.proofs.Common.{ℕ, ◌+◌, ◌*◌, ◌≤◌, ◌<◌, ◌≡◌, ap, arith}
 use Rattle.startup.specs.World.{Tab, In, Fit, round, offset, next_slot, distance, World}
 use Rattle.startup.proofs.Laws.{round_one}
 

@@ -1,11 +1,5 @@
 -- The theorem is not empty, and its bound is sharp: runs by computation, of document 01's table E and of a table that comes to the bound.
-use Prim.Native.Nat.{◌+◌}
-use mathlib.Core.Path.{◌≡◌, refl, sym, subst}
-use mathlib.Core.Bool.{Bool, true, false, ◌&&◌}
-use mathlib.Core.List.{List, [], ◌∷◌, ◌++◌, append-nil, append_assoc}
-use lib.Dec.{eqb}
-use lib.ListN.{replicate}
-use borrow.Author.Tests.{eqb-true}
+use Rattle.std.proofs.Common.{◌+◌, ◌≡◌, refl, sym, subst, Bool, true, false, ◌&&◌, List, [], ◌∷◌, ◌++◌, append-nil, append_assoc, eqb, replicate, eqb-true}
 use Rattle.hearers.specs.Set.{has, alone, without, all_but}
 use Rattle.words.specs.declared.Step.{Step}
 use Rattle.words.specs.declared.Step.TheVariants.{Advance, Timer, Hear}

@@ -1,8 +1,5 @@
 -- The rules of a state that the proof uses, and that every step keeps them.
-use Prim.Native.Nat.{ℕ, ◌+◌, ◌*◌, ◌≤◌}
-use mathlib.Core.Path.{◌≡◌, refl, sym, ◌∙◌}
-use mathlib.Core.Logic.{inl, inr}
-use native.Mathlib.Omega.{arith}
+use Rattle.std.proofs.Common.{ℕ, ◌+◌, ◌*◌, ◌≤◌, ◌≡◌, refl, sym, ◌∙◌, inl, inr, arith}
 use Rattle.rules.proofs.Each.{same_or_not}
 use Rattle.startup.specs.World.{Tab, In, Fit, round, offset, World, Still, SameFrame, SameCalendar, Leaves, Taken, Dropped, Sent, taken, dropped, Listens, Turns, Alone, Move, advance, listens, coldstarts, turns, speaks, ignores, follows, joins}
 use Rattle.startup.proofs.Laws.{split, offset_one, first_in, next_in}

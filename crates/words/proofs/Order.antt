@@ -1,13 +1,7 @@
 -- Refusal numbers: no two refusals share one, and what a row of them gives.
-use mathlib.Core.Path.{◌≡◌, refl, sym, ap, ◌∙◌}
-use mathlib.Core.Bool.{Bool, true, false}
-use mathlib.Core.List.{List, [], ◌∷◌}
-use Prim.Native.Nat.{ℕ, zero, suc, ◌≤◌}
-use native.Mathlib.Omega.{arith}
-use lib.ListN.{get_or}
+use Rattle.std.proofs.Common.{◌≡◌, refl, sym, ap, ◌∙◌, Bool, true, false, List, [], ◌∷◌, ℕ, zero, suc, ◌≤◌, arith, get_or, Result, Ok, Err}
 use Rattle.words.specs.declared.Refusal.{Refusal}
 use Rattle.words.specs.declared.Refusal.TheVariants.{TableLength, TableMark, TableRange, StateLength, StateMark, StateRule, NoSuchStep, SomethingDue, TimerNotDue, NotHearing, PastCeiling, ShortRoom, OwnFrame, HoldRange, BeforeLastBreak, NotActive, NoFreePlace, NoSuchEntry, NoNumberLeft, BookRule}
-use Rattle.std.specs.Prelude.{Result, Ok, Err}
 use Rattle.words.specs.declared.answers.Refused.{Refused}
 use Rattle.words.specs.Refusal.{number_of, verdict_number, unless, first_refusal}
 use Rattle.words.specs.Answer.{answer_number, answer_record, Answers}

@@ -1,4 +1,4 @@
-use native.Mathlib.Omega.{arith}
+use Rattle.std.proofs.Common.{arith}
 use Rattle.rules.proofs.Waits.{round_le, offset_le}
 use Rattle.rules.specs.State.{listen_wait}
 use Rattle.rules.proofs.Table.listen_wait.Goals as goal

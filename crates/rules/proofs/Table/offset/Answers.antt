@@ -1,6 +1,4 @@
-use mathlib.Core.Path.{refl}
-use native.Mathlib.Omega.{arith}
-use Prim.Native.Nat.{◌-◌}
+use Rattle.std.proofs.Common.{refl, arith, ◌-◌}
 use Rattle.rules.proofs.Waits.{slots_le}
 use Rattle.rules.specs.Table.{offset}
 use Rattle.rules.proofs.Table.offset.Goals as goal

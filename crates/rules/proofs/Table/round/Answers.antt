@@ -1,5 +1,4 @@
-use mathlib.Core.Path.{refl}
-use native.Mathlib.Omega.{arith}
+use Rattle.std.proofs.Common.{refl, arith}
 use Rattle.rules.proofs.Waits.{slots_le}
 use Rattle.rules.specs.Table.{round}
 use Rattle.rules.proofs.Table.round.Goals as goal

@@ -1,5 +1,5 @@
 use Rattle.std.proofs.Common.{◌++◌, ◌+◌, eqb, get_or, arith}
-use borrow.Author.Tests.{eq-eqb, ne_eqb}
+use Rattle.std.proofs.Common.{eq-eqb, ne_eqb}
 use Rattle.words.specs.declared.Step.TheVariants.{Timer, Hear}
 use Rattle.rules.specs.State.{no_head}
 use Rattle.runs.specs.Open.{only_if, open_to}

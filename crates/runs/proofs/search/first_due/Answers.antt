@@ -1,6 +1,5 @@
-use mathlib.Core.Path.{sym, ◌∙◌}
+use Rattle.std.proofs.Common.{sym, ◌∙◌, rules}
 use Rattle.runs.proofs.Laws.{found_none, found_timer, found_hear, found_later, quiet_at, quiet_first}
-use borrow.Author.Rules.{rules}
 use Rattle.runs.proofs.search.first_due.Goals as goal
 
 pub loop-i-init : goal.loop-i-init

@@ -1,6 +1,4 @@
-use mathlib.Core.List.{[]}
-use mathlib.Core.Path.{◌≡◌}
-use Prim.Native.Nat.{◌-◌, ◌≤◌}
+use Rattle.std.proofs.Common.{[], ◌≡◌, ◌-◌, ◌≤◌}
 use Rattle.runs.specs.Search.{due_to}
 use Rattle.runs.proofs.search.first_due.Given as goal
 
