@@ -3,6 +3,7 @@
 // two numbers. It uses words and hearers; everything else in the repository stands on it.
 #![tactic(auto)]
 
+mod bounds;
 mod calendars;
 mod fit;
 mod phases;

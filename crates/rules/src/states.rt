@@ -1,14 +1,12 @@
 // A state: its limits, the fresh state of a table, and whether its record meets the state rules.
-ghost use Rattle.std.specs.Prelude.{◌≡◌, true, ◌≤◌};
+ghost use Rattle.std.specs.Prelude.{◌≡◌, true};
 ghost use Rattle.words.specs.Refusal.{verdict_number};
 ghost use Rattle.words.specs.Answer.{Answers};
-ghost use Rattle.rules.specs.Each.{every};
-ghost use Rattle.rules.specs.Limits.{max_heads, ceiling};
 ghost use Rattle.rules.specs.Table.{table_fits, table_refusal};
-ghost use Rattle.rules.specs.State.{head_of, head_fits, place_fits, front_fits, state_fits, blank, fresh, fresh_or_blank};
+ghost use Rattle.rules.specs.State.{state_fits, blank, fresh, fresh_or_blank};
 ghost use Rattle.rules.specs.Judge.{record_refusal};
 
-use crate::calendars::calendar_fits;
+use crate::bounds::Bounds;
 use crate::{Calendar, Head, Phase, State, Table};
 use words::{Answer, Refusal, Verdict};
 
@@ -75,58 +73,19 @@ impl State {
         }
     }
 
-    #[tactic(auto, unfolding(crate::specs::State::state_fits), using(crate::proofs::Known::state_places, crate::proofs::Checks::front_clock))]
     // Whether the state rules hold, against a table that is known to fit.
+    #[tactic(auto, unfolding(crate::specs::State::state_fits, crate::specs::State::front_fits), using(crate::proofs::Known::state_places))]
     pub fn fits(self, t: Table) -> bool
         requires { table_fits t ≡ true }
         ensures { result ≡ state_fits t self }
     {
-        front_fits(t, self) && heads_fit(t, self)
-    }
-}
-
-// The rules of the clock, the head count and the calendar.
-#[tactic(auto, unfolding(crate::specs::State::front_fits))]
-fn front_fits(t: Table, s: State) -> bool
-    requires { table_fits t ≡ true }
-    ensures { result ≡ front_fits t s }
-{
-    s.clock <= State::CEILING && s.n == t.n && calendar_fits(t, s.clock, s.calendar)
-}
-
-fn heads_fit(t: Table, s: State) -> bool
-    requires { (table_fits t ≡ true) × (s.clock ≤ ceiling) }
-    ensures { result ≡ every max_heads (λ i. place_fits t s.clock i (head_of s.heads i)) }
-{
-    s.heads
-        .iter()
-        .enumerate()
-        .all(|(k, &head)| place_fits(&t, s.clock, k as u8 + 1, head))
-}
-
-// A head place: a head's rules for 1 to N, zero above. The table is lent, not copied for each place.
-#[tactic(auto, unfolding(crate::specs::State::place_fits, crate::specs::State::is_zero))]
-fn place_fits(t: &Table, clock: u32, i: u8, h: Head) -> bool
-    requires { (table_fits t.now ≡ true) × (clock ≤ ceiling) × (1 ≤ i) × (i ≤ max_heads) }
-    ensures { result ≡ place_fits t.now clock i h }
-{
-    if i <= t.n {
-        head_fits(t, clock, i, h)
-    } else {
-        h == Head::ZERO
-    }
-}
-
-#[tactic(auto, unfolding(crate::specs::State::head_fits, crate::specs::State::phase_fits), using(crate::proofs::Checks::wake_at))]
-fn head_fits(t: &Table, clock: u32, i: u8, h: Head) -> bool
-    requires { (table_fits t.now ≡ true) × (clock ≤ ceiling) × (1 ≤ i) × (i ≤ max_heads) }
-    ensures { result ≡ head_fits t.now clock i h }
-{
-    clock <= h.timeout
-        && match h.phase {
-            Phase::Init => h.timeout == t.wakes[i as usize - 1],
-            Phase::Listen => h.timeout <= clock + t.listen_wait(i),
-            Phase::Coldstart => h.timeout <= clock + t.coldstart_wait(i),
-            Phase::Active(k) => h.timeout <= clock + t.s as u32 && t.is_head(k),
+        if State::CEILING < self.clock || self.n != t.n {
+            return false;
         }
+        let bounds = Bounds {
+            table: &t,
+            clock: self.clock,
+        };
+        bounds.calendar_fits(self.calendar) && bounds.heads_fit(&self.heads)
+    }
 }
