@@ -9,6 +9,7 @@ use crate::places::find;
 use crate::{Book, Crossing, Entry};
 use words::{Answer, Refusal};
 
+// Heads are bounded in the clauses: a break may name any byte, and 17 refuses the others first.
 impl Book {
     // Whether a break of a head at a tick is a tail of the head's last crossing.
     #[tactic(auto, unfolding(crate::specs::Calls::is_tail), using(crate::proofs::Rows::at_before))]

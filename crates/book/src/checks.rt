@@ -32,6 +32,7 @@ impl Book {
 
     pub const LONGEST_HOLD: u16 = 1000;
 
+    // A tail count stays at this one, which is `u16`'s last.
     pub const MOST_TAILS: u16 = 65535;
 
     pub const LAST_NUMBER: u32 = 4294967295;
@@ -80,7 +81,8 @@ impl Book {
             .all(|(k, &e)| self.entry_fits(e, &numbers, k))
     }
 
-    // The numbers of the places, side by side, so that one can be looked for among the others at speed.
+    // The numbers of the places, side by side, so that one can be looked for among the others at speed. A loop fills them, which is quicker
+    // than the array's `map`.
     fn numbers(&self) -> [u32; Book::PLACES]
         ensures { result ≡ map number_in self.now.places }
     {

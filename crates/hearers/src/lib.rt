@@ -1,5 +1,6 @@
 // A set of heads, kept as the bits of one number: head 1 in the lowest bit. The calendar's hearers are such a set. This crate is
-// the only one that looks at bits; it uses no other crate, and all above it speak of heads by their numbers, 1 to 64.
+// the only one that looks at bits; it uses no other crate, and all above it speak of heads by their numbers, 1 to 64. A number is a `u8` with
+// its bounds in a clause: steps, calendars and images hold any byte, and a type of its own would be put round it at each call.
 #![tactic(auto, using(crate::proofs::Laws::as_reached), unfolding(crate::specs::Set::all_but))]
 
 ghost use Rattle.std.specs.Prelude.{◌≡◌, ◌≤◌, eqb, leb};

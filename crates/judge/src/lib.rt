@@ -19,8 +19,8 @@ pub fn step(t: Table, s: State, x: Step) -> Answer<State>
     }
 }
 
-#[tactic(auto, using(crate::proofs::Laws::of_pair))]
 // The same of a step in bytes: 0,0 advance; 1,i timer; 2,i hear; any other pair is no step (7).
+#[tactic(auto, using(crate::proofs::Laws::of_pair))]
 pub fn pair(t: Table, s: State, kind: u8, i: u8) -> Answer<State>
     ensures { Answers result (refusal t s (step_of kind i)) (judged t s (step_of kind i)) }
 {

@@ -26,6 +26,7 @@ pub fn number(image: &[u8], at: usize, width: usize) -> u64
         .fold(0, |x, byte| x << 8 | u64::from(*byte))
 }
 
+// The same at a width, as a number of that width: one generic function would take a trait with four impls, for `as` is not generic.
 pub fn bits8(image: &[u8], at: usize) -> u8
     requires { at + 1 ≤ length image.now }
     ensures { result ≡ number_at image.now at 1 }

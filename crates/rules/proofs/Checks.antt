@@ -1,5 +1,5 @@
 -- The record checks and the fresh state, case by case and in the code's own terms: each return of a function cites one law.
-use Rattle.std.proofs.Common.{◌≡◌, sym, ◌∙◌, true, false, inl, inr, List, [], map, ℕ, zero, suc, ◌+◌, ◌-◌, ◌≤◌, add-one, arith, leb, get_or, leb-true}
+use Rattle.std.proofs.Common.{◌≡◌, sym, ◌∙◌, true, false, inl, inr, List, [], map, ℕ, zero, suc, ◌+◌, ◌-◌, ◌≤◌, add-one, arith, get_or}
 use Rattle.words.specs.declared.Step.{Step}
 use Rattle.words.specs.declared.Refusal.TheVariants.{TableRange, StateRule}
 use Rattle.words.specs.Refusal.{number_of, unless}
@@ -8,13 +8,12 @@ use Rattle.rules.specs.declared.Phase.TheVariants.{Init}
 use Rattle.rules.specs.declared.Head.{Head}
 use Rattle.rules.specs.declared.State.{State}
 use Rattle.rules.specs.declared.Table.{Table}
-use Rattle.rules.specs.Limits.{ceiling}
 use Rattle.rules.specs.declared.Calendar.{Calendar}
 use Rattle.rules.specs.Judge.{step_refusal, record_refusal, refusal}
 use Rattle.rules.specs.Table.{wake_of, wake_fits, table_fits, table_refusal}
 use Rattle.rules.specs.Calendar.{empty_calendar}
-use Rattle.rules.specs.State.{head_in, no_head, head_of, place_fits, front_fits, state_fits, state_refusal, fresh, fresh_or_blank}
-use Rattle.rules.proofs.Each.{same_or_not, and_true, either_or_not}
+use Rattle.rules.specs.State.{head_in, no_head, head_of, place_fits, state_fits, state_refusal, fresh, fresh_or_blank}
+use Rattle.rules.proofs.Each.{same_or_not, either_or_not}
 
 -- ---- places, by the index that the code has
 
@@ -39,10 +38,6 @@ head_place t clock hs k = rw add-one
 -- ---- the verdict on a table
 
 module _ (t : Table) where
-  pub table_refused : table_fits t ≡ false → number_of TableRange ≡ table_refusal t
-  unfolding table_refusal
-  table_refused e = sym (unless_not (table_fits t) TableRange e)
-
   pub table_accepted : table_fits t ≡ true → 0 ≡ table_refusal t
   unfolding table_refusal
   table_accepted e = sym (is_unless (table_fits t) TableRange e)
@@ -58,9 +53,6 @@ module _ (t : Table) where
 
 module _ (t : Table) (s : State) where
   -- the clock of a state whose front fits
-  pub front_clock : front_fits t s ≡ true → s.clock ≤ ceiling
-  unfolding front_fits
-  front_clock e = leb-true _ _ (and_true (leb s.clock ceiling) _ e).0
 
   pub record_table : (table_refusal t ≡ 0 → ⊥) → table_refusal t ≡ record_refusal t s
   unfolding record_refusal

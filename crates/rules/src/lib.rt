@@ -22,7 +22,7 @@ pub struct Table {
 }
 
 // The one frame on the cable: who has still to hear it, its kind (1 coldstart frame, 2 i-frame), origin, sent and delivery tick.
-// With no hearer all of it is zero.
+// With no hearer all of it is zero. The kind is a number, for a record may hold any: one that is neither breaks a state rule (6).
 #[derive(Clone, Copy, PartialEq, Eq, Debug)]
 pub struct Calendar {
     pub hearers: u64,

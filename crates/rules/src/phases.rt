@@ -5,6 +5,7 @@ ghost use Rattle.rules.specs.State.{phase_number, slot_number};
 use crate::Phase;
 
 impl Phase {
+    // `as` takes no enum of which a case has data.
     pub fn number(self) -> u8
         ensures { result ≡ phase_number self }
     {

@@ -35,8 +35,8 @@ impl State {
         }
     }
 
-    #[tactic(auto, unfolding(crate::specs::State::fresh_or_blank, crate::specs::Table::table_refusal, words::specs::Refusal::unless), using(crate::proofs::Checks::accepted_table, crate::proofs::Checks::refused_table))]
     // The fresh state of a table, or 3 with a blank record.
+    #[tactic(auto, unfolding(crate::specs::State::fresh_or_blank, crate::specs::Table::table_refusal, words::specs::Refusal::unless), using(crate::proofs::Checks::accepted_table, crate::proofs::Checks::refused_table))]
     pub fn fresh(t: Table) -> Answer<State>
         ensures { Answers result (table_refusal t) (fresh_or_blank t) }
     {

@@ -24,8 +24,8 @@ impl Table {
         wakes: [0; State::MAX_HEADS],
     };
 
-    #[tactic(auto, unfolding(crate::specs::Table::table_refusal, words::specs::Refusal::unless))]
     // The table rules: accepted, or refused for a number outside its range (3).
+    #[tactic(auto, unfolding(crate::specs::Table::table_refusal, words::specs::Refusal::unless))]
     pub fn check(self) -> Verdict
         ensures { verdict_number result ≡ table_refusal self }
     {

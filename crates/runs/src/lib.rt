@@ -21,7 +21,8 @@ pub use given::{run_given, run_given_fit};
 pub use listing::{open_steps, open_steps_fit};
 pub use policy::{run_policy, run_policy_fit};
 
-// What a run answers: the state it came to, how many steps were accepted, and what stopped it.
+// What a run answers: the state it came to, how many steps were accepted, and what stopped it. It is no Result, for all three are answered
+// whether it was stopped or not.
 #[derive(Clone, Copy, PartialEq, Eq, Debug)]
 pub struct Ran {
     pub state: State,

@@ -10,8 +10,8 @@ ghost use Rattle.runs.specs.Search.{due_to};
 use rules::{Calendar, State};
 use words::Step;
 
-#[tactic(auto, unfolding(rules::specs::Calendar::hear_due, rules::specs::Calendar::hears))]
 // Whether head i hears the frame now.
+#[tactic(auto, unfolding(rules::specs::Calendar::hear_due, rules::specs::Calendar::hears))]
 pub fn hear_due(clock: u32, c: Calendar, i: u8) -> bool
     requires { (1 ≤ i) × (i ≤ max_heads) }
     ensures { result ≡ hear_due clock c i }
@@ -20,7 +20,8 @@ pub fn hear_due(clock: u32, c: Calendar, i: u8) -> bool
 }
 
 // The first due step of heads 1 to n, timer before hear for one head, searched from a place before which nothing is due; advance
-// where nothing is due at all. Nothing is due before the place of what is found, so the next search may start there.
+// where nothing is due at all. Nothing is due before the place of what is found, so the next search may start there. 01 has this search be
+// a loop that yields by `break`.
 pub fn first_due(
     timeouts: &[u32; State::MAX_HEADS],
     clock: u32,

@@ -1,8 +1,7 @@
 -- The state reader and writer, case by case and in the code's own terms: each return of a function cites one law.
-use Rattle.std.proofs.Common.{◌≡◌, refl, sym, ap, ◌∙◌, true, false, List, ℕ, suc, ◌≤◌, ◌<◌, arith, length, get_or, take, length-append, eq-eqb}
+use Rattle.std.proofs.Common.{◌≡◌, refl, sym, ap, ◌∙◌, true, List, ℕ, suc, ◌≤◌, ◌<◌, arith, length, get_or, take, length-append, eq-eqb}
 use Rattle.std.proofs.lemmas.List.{get_or-take}
 use Rattle.words.specs.declared.Refusal.{Refusal}
-use Rattle.words.specs.declared.Refusal.TheVariants.{TableRange}
 use Rattle.words.specs.Refusal.{number_of, unless, first_refusal}
 use Rattle.words.proofs.Order.{number_some, first_some, first_none, first_last}
 use Rattle.rules.specs.declared.Head.{Head}
@@ -28,10 +27,6 @@ unfolding take_refusal first_refusal unless
 take_known n l long m h e = rw (eq-eqb _ _ long, m, eq-eqb _ _ h, e)
 
 module _ (t : Table) (l : List ℕ) where
-  pub read_unfit : table_fits t ≡ false → number_of TableRange ≡ read_state_refusal t l
-  unfolding read_state_refusal table_refusal first_refusal unless
-  read_unfit e = rw e
-
   pub read_no_table : (why : Refusal) → number_of why ≡ table_refusal t → number_of why ≡ read_state_refusal t l
   unfolding read_state_refusal
   read_no_table why e = e ∙ sym (first_some (table_refusal t) _ (λ z. omega (arith, number_some why)))

@@ -19,7 +19,7 @@ use octets::{COUNT_AT, bits8, bits32, marked, number, store, store_opening};
 use rules::{Calendar, Head, Phase, State, Table};
 use words::{Answer, Refusal};
 
-// The letters HST as one number, least byte first.
+// The letters HST as one number, least byte first, as in table_images.
 const MARK: u64 = b'H' as u64 + 256 * (b'S' as u64 + 256 * (b'T' as u64));
 
 // Where the clock and the calendar's fields stand.
@@ -113,7 +113,7 @@ pub fn read(t: Table, image: &[u8]) -> Answer<State>
     }
 }
 
-// The same against a table that is known to fit.
+// The same against a table that is known to fit: a fact about this one argument, which is handed on as it is.
 pub fn read_fit(t: Table, image: &[u8]) -> Answer<State>
     requires { table_fits t ≡ true }
     ensures { Answers result (read_state_refusal t image.now) (read_state t image.now) }

@@ -17,8 +17,8 @@ fn least(timeouts: &[u32; State::MAX_HEADS], n: u8) -> u32
         .fold(timeouts[0], |least, &timeout| least.min(timeout))
 }
 
-#[tactic(auto, unfolding(crate::specs::Parts::instant, rules::specs::Calendar::quiet))]
 // The least timeout or, if hearers wait and it is earlier, the delivery tick.
+#[tactic(auto, unfolding(crate::specs::Parts::instant, rules::specs::Calendar::quiet))]
 pub fn instant(timeouts: &[u32; State::MAX_HEADS], n: u8, c: Calendar) -> u32
     requires { (1 ≤ n) × (n ≤ max_heads) }
     ensures { result ≡ instant timeouts.now n c }
@@ -31,8 +31,8 @@ pub fn instant(timeouts: &[u32; State::MAX_HEADS], n: u8, c: Calendar) -> u32
     }
 }
 
-#[tactic(auto, unfolding(crate::specs::Parts::clock_after))]
 // The clock after a step: only an advance moves it.
+#[tactic(auto, unfolding(crate::specs::Parts::clock_after))]
 pub fn clock_after(
     timeouts: &[u32; State::MAX_HEADS],
     n: u8,
@@ -49,9 +49,9 @@ pub fn clock_after(
     }
 }
 
-#[tactic(auto, unfolding(crate::specs::Parts::advance_refusal, words::specs::Refusal::first_refusal, words::specs::Refusal::unless))]
 // Whether an advance to the next instant is accepted. In a state that fits, something is due exactly where the next instant is the
 // present one, so one search serves both tests.
+#[tactic(auto, unfolding(crate::specs::Parts::advance_refusal, words::specs::Refusal::first_refusal, words::specs::Refusal::unless))]
 pub fn verdict(clock: u32, next: u32) -> Verdict
     ensures { verdict_number result ≡ advance_refusal clock next }
 {

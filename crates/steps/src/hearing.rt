@@ -9,8 +9,8 @@ ghost use Rattle.steps.specs.Ready.{Sender};
 use rules::{Calendar, Head, Phase, Table};
 use words::{Refusal, Verdict};
 
-#[tactic(auto, unfolding(rules::specs::Step::listener_wait))]
 // How long a listener waits that hears a coldstart frame.
+#[tactic(auto, unfolding(rules::specs::Step::listener_wait))]
 fn listener_wait(t: Table, i: u8) -> u32
     requires { 1 ≤ i }
     ensures { result ≡ listener_wait t i }
@@ -18,8 +18,8 @@ fn listener_wait(t: Table, i: u8) -> u32
     t.coldstart_wait(i)
 }
 
-#[tactic(auto, unfolding(rules::specs::Step::joined))]
 // A head that joins: the sender's slot, which began one propagation ago.
+#[tactic(auto, unfolding(rules::specs::Step::joined))]
 fn joined(t: Table, clock: u32, c: Calendar) -> Head
     requires { (t.p ≤ t.s) × (t.s ≤ longest_slot) × (clock ≤ ceiling) }
     ensures { result ≡ joined t clock c }
@@ -30,8 +30,8 @@ fn joined(t: Table, clock: u32, c: Calendar) -> Head
     }
 }
 
-#[tactic(auto, unfolding(rules::specs::Step::hear_head))]
 // Head i after it has heard the frame, by its phase before.
+#[tactic(auto, unfolding(rules::specs::Step::hear_head))]
 pub fn hear_head(t: Table, clock: u32, i: u8, c: Calendar, h: Head) -> Head
     requires { Sender t clock i }
     ensures { result ≡ hear_head t clock i c h h.phase }
@@ -46,16 +46,16 @@ pub fn hear_head(t: Table, clock: u32, i: u8, c: Calendar, h: Head) -> Head
     }
 }
 
-#[tactic(auto, unfolding(crate::specs::Parts::heeds))]
 // Whether a head in a phase heeds a frame that it hears: in any other phase it stays as it is.
+#[tactic(auto, unfolding(crate::specs::Parts::heeds))]
 pub fn heeds(p: Phase) -> bool
     ensures { result ≡ heeds p }
 {
     matches!(p, Phase::Listen | Phase::Coldstart)
 }
 
-#[tactic(auto, unfolding(crate::specs::Parts::hear_refusal, words::specs::Refusal::first_refusal, words::specs::Refusal::unless, rules::specs::Calendar::hear_due, rules::specs::Calendar::hears))]
 // Whether head i may hear.
+#[tactic(auto, unfolding(crate::specs::Parts::hear_refusal, words::specs::Refusal::first_refusal, words::specs::Refusal::unless, rules::specs::Calendar::hear_due, rules::specs::Calendar::hears))]
 pub fn verdict(t: Table, clock: u32, c: Calendar, i: u8) -> Verdict
     requires { t.n ≤ max_heads }
     ensures { verdict_number result ≡ hear_refusal t clock c i }

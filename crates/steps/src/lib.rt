@@ -1,7 +1,8 @@
 // The steps themselves, on a table and a state that are known to fit: what each kind makes of the clock, of the calendar and of the
 // head that it names, and a proposed step attempted on a whole state. Nothing here looks at the record rules again, so a run can
-// check its table and state once and then step, and the parts let it do so in place. It uses words, hearers and rules; judge puts
-// the record checks in front of it for everybody else.
+// check its table and state once and then step, and the parts let it do so in place. What is asked for a head that sends is one record,
+// `Sender`; table, clock and head stay parameters, for a struct of them would be made twice and hold the whole table, or borrow it. It
+// uses words, hearers and rules; judge puts the record checks in front of it for everybody else.
 #![tactic(auto)]
 
 ghost use Rattle.std.specs.Prelude.{◌≡◌, ◌≤◌};
@@ -45,8 +46,8 @@ pub fn attempt(fit: Fit, x: Step) -> Answer<State>
     Ok(next)
 }
 
-#[tactic(auto, unfolding(crate::specs::Parts::part_refusal))]
 // Whether a step is accepted, by the clock after it and the head that it names.
+#[tactic(auto, unfolding(crate::specs::Parts::part_refusal))]
 fn verdict(t: Table, clock: u32, later: u32, c: Calendar, h: Head, x: Step) -> Verdict
     requires { t.n ≤ max_heads }
     ensures { verdict_number result ≡ part_refusal t clock later c h x }
@@ -58,8 +59,8 @@ fn verdict(t: Table, clock: u32, later: u32, c: Calendar, h: Head, x: Step) -> V
     }
 }
 
-#[tactic(auto, unfolding(crate::specs::Parts::calendar_after, crate::specs::Ready::Ready), using(crate::proofs::Laws::sent_frame))]
 // The calendar after a step.
+#[tactic(auto, unfolding(crate::specs::Parts::calendar_after, crate::specs::Ready::Ready), using(crate::proofs::Laws::sent_frame))]
 fn calendar_after(t: Table, clock: u32, c: Calendar, h: Head, x: Step) -> Calendar
     requires { Ready t clock x }
     ensures { result ≡ calendar_after t clock c h x }
@@ -71,8 +72,8 @@ fn calendar_after(t: Table, clock: u32, c: Calendar, h: Head, x: Step) -> Calend
     }
 }
 
-#[tactic(auto, unfolding(crate::specs::Parts::head_after, crate::specs::Ready::Ready))]
 // The head that a step names, after it.
+#[tactic(auto, unfolding(crate::specs::Parts::head_after, crate::specs::Ready::Ready))]
 fn head_after(t: Table, clock: u32, c: Calendar, h: Head, x: Step) -> Head
     requires { Ready t clock x }
     ensures { result ≡ head_after t clock c h x }

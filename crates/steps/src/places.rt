@@ -5,8 +5,8 @@ ghost use Rattle.steps.specs.Parts.{place, timeouts};
 
 use rules::State;
 
-#[tactic(auto, unfolding(crate::specs::Parts::place))]
 // Where the head that a step names stands; the first place where it names none.
+#[tactic(auto, unfolding(crate::specs::Parts::place))]
 pub fn place(i: u8) -> usize
     ensures { result ≡ place i }
 {
@@ -17,7 +17,8 @@ pub fn place(i: u8) -> usize
     }
 }
 
-// The timeouts of all places, side by side, so that a search runs over numbers alone.
+// The timeouts of all places, side by side, so that a search runs over numbers alone. A loop fills them: the array's `map` moves every
+// head several times over, and a judged step took twice as long with it.
 pub fn timeouts(s: State) -> [u32; State::MAX_HEADS]
     ensures { result ≡ timeouts s.heads }
 {

@@ -7,16 +7,16 @@ ghost use Rattle.steps.specs.Ready.{Sender};
 
 use rules::{Calendar, Table};
 
-#[tactic(auto, unfolding(rules::specs::Calendar::settled, rules::specs::Calendar::quiet))]
 // Nothing of a frame is kept once nobody waits for it.
+#[tactic(auto, unfolding(rules::specs::Calendar::settled, rules::specs::Calendar::quiet))]
 fn settled(c: Calendar) -> Calendar
     ensures { result ≡ settled c }
 {
     if c.hearers == 0 { Calendar::empty() } else { c }
 }
 
-#[tactic(auto, unfolding(rules::specs::Calendar::left))]
 // Head i leaves the hearers.
+#[tactic(auto, unfolding(rules::specs::Calendar::left))]
 pub fn left(c: Calendar, i: u8) -> Calendar
     requires { (1 ≤ i) × (i ≤ max_heads) }
     ensures { result ≡ left c i }
@@ -27,8 +27,8 @@ pub fn left(c: Calendar, i: u8) -> Calendar
     })
 }
 
-#[tactic(auto, unfolding(rules::specs::Calendar::taken))]
 // The calendar takes the frame: all heads but i wait for it.
+#[tactic(auto, unfolding(rules::specs::Calendar::taken))]
 fn taken(t: Table, clock: u32, kind: u8, i: u8) -> Calendar
     requires { Sender t clock i }
     ensures { result ≡ taken t clock kind i }
@@ -42,8 +42,8 @@ fn taken(t: Table, clock: u32, kind: u8, i: u8) -> Calendar
     })
 }
 
-#[tactic(auto, unfolding(rules::specs::Calendar::send, rules::specs::Calendar::quiet))]
 // Send by i at the clock: dropped where hearers wait, and i no longer hears; otherwise taken.
+#[tactic(auto, unfolding(rules::specs::Calendar::send, rules::specs::Calendar::quiet))]
 pub fn send(t: Table, clock: u32, kind: u8, i: u8, c: Calendar) -> Calendar
     requires { Sender t clock i }
     ensures { result ≡ send t clock kind i c }
@@ -55,8 +55,8 @@ pub fn send(t: Table, clock: u32, kind: u8, i: u8, c: Calendar) -> Calendar
     }
 }
 
-#[tactic(auto, unfolding(crate::specs::Parts::sent))]
 // The calendar after a frame of a kind is sent, or as it was where there is none.
+#[tactic(auto, unfolding(crate::specs::Parts::sent))]
 pub fn sends(t: Table, clock: u32, kind: Option<u8>, i: u8, c: Calendar) -> Calendar
     requires { Sender t clock i }
     ensures { result ≡ sent t clock kind i c }

@@ -8,16 +8,16 @@ ghost use Rattle.steps.specs.Ready.{Sender};
 use rules::{Calendar, Head, Phase, Table};
 use words::{Refusal, Verdict};
 
-#[tactic(auto, unfolding(rules::specs::Step::slot_after))]
 // The next slot: N is followed by 1.
+#[tactic(auto, unfolding(rules::specs::Step::slot_after))]
 fn slot_after(t: Table, k: u8) -> u8
     ensures { result ≡ slot_after t k }
 {
     if k < t.n { k + 1 } else { 1 }
 }
 
-#[tactic(auto, unfolding(rules::specs::Step::timer_head))]
 // Head i after its timer, by its phase before.
+#[tactic(auto, unfolding(rules::specs::Step::timer_head))]
 pub fn timer_head(t: Table, clock: u32, i: u8, p: Phase) -> Head
     requires { Sender t clock i }
     ensures { result ≡ timer_head t clock i p }
@@ -38,8 +38,8 @@ pub fn timer_head(t: Table, clock: u32, i: u8, p: Phase) -> Head
     }
 }
 
-#[tactic(auto, unfolding(rules::specs::Step::timer_frame, crate::specs::Parts::frame_of))]
 // The kind of frame that head i's timer sends, if any.
+#[tactic(auto, unfolding(rules::specs::Step::timer_frame, crate::specs::Parts::frame_of))]
 pub fn timer_frame(t: Table, i: u8, p: Phase) -> Option<u8>
     ensures { result ≡ frame_of (timer_frame t i p) }
 {
@@ -50,8 +50,8 @@ pub fn timer_frame(t: Table, i: u8, p: Phase) -> Option<u8>
     }
 }
 
-#[tactic(auto, unfolding(crate::specs::Parts::timer_refusal, words::specs::Refusal::first_refusal, words::specs::Refusal::unless))]
 // Whether head i's timer may go off.
+#[tactic(auto, unfolding(crate::specs::Parts::timer_refusal, words::specs::Refusal::first_refusal, words::specs::Refusal::unless))]
 pub fn verdict(t: Table, clock: u32, h: Head, i: u8) -> Verdict
     ensures { verdict_number result ≡ timer_refusal t clock h i }
 {

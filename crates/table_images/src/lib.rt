@@ -17,7 +17,7 @@ use octets::{COUNT_AT, bits8, bits16, bits32, marked, store, store_opening};
 use rules::{State, Table};
 use words::{Answer, Refusal};
 
-// The letters HTB as one number, least byte first.
+// The letters HTB as one number, least byte first. A constant calls no function, so the sum is written out.
 const MARK: u64 = b'H' as u64 + 256 * (b'T' as u64 + 256 * (b'B' as u64));
 
 // Where S and P stand.
@@ -30,7 +30,8 @@ pub const FRONT: usize = 10;
 
 pub const WAKE: usize = 4;
 
-// Writes a table's image into the room: refused with 3 or 12, or the number of bytes.
+// Writes a table's image into the room: refused with 3 or 12, or the number of bytes. A state's writer has this shape too; to share it
+// would take two closures over the room.
 pub fn write(t: Table, room: &mut [u8]) -> Result<usize, Refusal>
     ensures { Wrote result (table_refusal t) (table_image t) room.old room.new }
 {

@@ -8,7 +8,7 @@ pub fn letter(line: &[u8], at: usize) -> u8 {
     line.get(at).copied().unwrap_or(0)
 }
 
-// A number with one more digit. One that sixty-four bits cannot hold comes out wrong, and the sheet would show it.
+// A number with one more digit. One that sixty-four bits cannot hold comes out wrong, as it always has, and the sheet would show it.
 fn joined(x: u64, digit: u8) -> u64 {
     match x.checked_mul(10) {
         Some(tens) => tens.wrapping_add(digit.wrapping_sub(b'0') as u64),

@@ -2,7 +2,7 @@
 use rules::{Calendar, Head, State, Table};
 use words::{Answer, Refusal, Refused, Verdict, verdict_number};
 
-// Standard output, by its number.
+// Standard output, by its number: std's printing would assume one C function more.
 const STDOUT: i32 = 1;
 
 pub fn text(bytes: &[u8]) {

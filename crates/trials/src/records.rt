@@ -72,7 +72,7 @@ pub fn head(line: &[u8], before: usize) -> Head
     }
 }
 
-// May stand in a state line for a phase that it does not name.
+// May stand in a state line for a phase that it does not name, as sheets may have it.
 const NO_PHASE: u64 = 4;
 
 // The head that a state line names for a place: the first one where it names too few for N, and zeros where it names none above N.

@@ -16,7 +16,7 @@ use pieces::fill;
 use rules::{State, Table};
 use words::Verdict;
 
-// The two channels, by their numbers.
+// The two channels, by their numbers: std's reader does not say how many bytes it read, so `io` stays.
 const STDIN: i32 = 0;
 
 const STDOUT: i32 = 1;

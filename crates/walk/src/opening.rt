@@ -47,8 +47,8 @@ fn table_part(input: &[u8]) -> usize
     asked_length(input).min(input.len())
 }
 
-#[tactic(auto, unfolding(crate::specs::Listing::asked_length))]
 // The length of a table image with the head count that stands in the input, or of its front where that is no head count.
+#[tactic(auto, unfolding(crate::specs::Listing::asked_length))]
 fn asked_length(input: &[u8]) -> usize
     ensures { result ≡ asked_length input.now }
 {

@@ -1,12 +1,12 @@
-// A step in bytes is a pair: 0,0 advance; 1,i timer; 2,i hear.
+// A step in bytes is a pair: 0,0 advance; 1,i timer; 2,i hear. `From` of two bytes, and of a step, would not say which byte is which.
 ghost use Rattle.std.specs.Prelude.{◌≡◌};
 ghost use Rattle.words.specs.Pair.{kind_of, head_number, step_of};
 
 use crate::Step;
 
 impl Step {
-    #[tactic(auto, unfolding(crate::specs::Pair::step_of))]
     // The step that a pair names. Any other pair reads as the timer of head 0, which every table refuses (7).
+    #[tactic(auto, unfolding(crate::specs::Pair::step_of))]
     pub fn read(kind: u8, i: u8) -> Step
         ensures { result ≡ step_of kind i }
     {
