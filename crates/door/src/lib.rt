@@ -17,7 +17,7 @@ ghost use Rattle.door.specs.Answers.{answer, state_of, open_refusal, judge_refus
 
 use rules::{Fit, State};
 use runs::Ran;
-use words::{Refusal, Step};
+use words::{Refusal, Step, verdict_number};
 
 // 2^56: what is left of sixty-four bits above the refusal number's byte.
 const COUNT_PLACES: u64 = 1 << 56;
@@ -58,7 +58,7 @@ pub extern "C" fn vt_given(table: &[u8], state: &[u8], pairs: &[u8], room: &mut 
     }
 }
 
-// A run by the fixed policy.
+// A run by the fixed policy. To share the three lines, either run would be a closure over what the images gave.
 #[tactic(auto, using(crate::proofs::Laws::policy_ran, crate::proofs::Laws::policy_few))]
 #[unsafe(no_mangle)]
 pub extern "C" fn vt_policy(table: &[u8], state: &[u8], count: usize, room: &mut [u8]) -> u64
@@ -134,9 +134,5 @@ fn wrote(w: Result<usize, Refusal>) -> u64
 fn answer(w: Result<usize, Refusal>, count: usize) -> u64
     ensures { result ≡ answer (verdict_number w) count }
 {
-    let number = match w {
-        Ok(_) => 0,
-        Err(why) => why.number(),
-    };
-    number as u64 + 256 * (count as u64 % COUNT_PLACES)
+    verdict_number(w) as u64 + 256 * (count as u64 % COUNT_PLACES)
 }

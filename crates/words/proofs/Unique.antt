@@ -26,8 +26,8 @@ refusal_with_one T L κs a r q s u p e = refused_one r q (p.0 ∙ sym e.0) (p.1 
 pub refusal_from_one : (T : _) (L : _) (d : _) (κs : _) (a : K.Dens κs (refusal-from-kinds.ps T L)) (r q : _) (s u : _) → refusal-from.Post T L d κs a r s → refusal-from.Post T L d κs a q u → r ≡ q
 refusal_from_one T L d κs a r q s u p e = p ∙ sym e
 
-pub verdict_number_one : (a : K.Dens tt verdict-number-kinds.ps) (r q : _) (s u : _) → verdict-number.Post tt a r s → verdict-number.Post tt a q u → r ≡ q
-verdict_number_one a r q s u p e = p ∙ sym e
+pub verdict_number_one : (T : _) (L : _) (d : _) (κs : _) (a : K.Dens κs (verdict-number-kinds.ps T L)) (r q : _) (s u : _) → verdict-number.Post T L d κs a r s → verdict-number.Post T L d κs a q u → r ≡ q
+verdict_number_one T L d κs a r q s u p e = p ∙ sym e
 
 pub step_read_one : (a : K.Dens tt step-read-kinds.ps) (r q : _) (s u : _) → step-read.Post tt a r s → step-read.Post tt a q u → r ≡ q
 step_read_one a r q s u p e = p ∙ sym e

@@ -39,12 +39,12 @@ impl<T: Drop> From<Refused<T>> for Refusal {
     }
 }
 
-// A verdict's number: that of its refusal, or 0 where nothing is refused.
-pub fn verdict_number(v: Verdict) -> u8
+// The number of a verdict, or of any result: that of its refusal, or 0 where nothing is refused.
+pub fn verdict_number<T: Drop>(v: Result<T, Refusal>) -> u8
     ensures { result ≡ verdict_number v }
 {
     match v {
-        Ok(()) => 0,
+        Ok(_) => 0,
         Err(why) => why.number(),
     }
 }

@@ -5,7 +5,8 @@ ghost use Rattle.words.specs.Pair.{kind_of, head_number, step_of};
 use crate::Step;
 
 impl Step {
-    // The step that a pair names. Any other pair reads as the timer of head 0, which every table refuses (7).
+    // The step that a pair names. Any other pair reads as the timer of head 0, which every table refuses (7): it
+    // could not fail before, so it is no Option.
     #[tactic(auto, unfolding(crate::specs::Pair::step_of))]
     pub fn read(kind: u8, i: u8) -> Step
         ensures { result ≡ step_of kind i }
