@@ -1,5 +1,5 @@
 -- Together the parts are the step: on a table and a state that fit, what they refuse and what they make is what the rules say.
-use Rattle.std.proofs.Common.{◌≡◌, refl, sym, ap, ◌∙◌, true, ⊎_elim, List, [], ◌∷◌, ℕ, zero, suc, ◌-◌, ◌≤◌, ◌<◌, arith, eqb, length, get_or, set, ne_eqb, le-leb}
+use Rattle.std.proofs.Common.{◌≡◌, refl, sym, ap, ◌∙◌, true, false, ⊎_elim, List, [], ◌∷◌, ℕ, zero, suc, ◌-◌, ◌≤◌, ◌<◌, arith, eqb, length, get_or, set, ne_eqb, le-leb}
 use Rattle.std.proofs.Math.ListN.{get_or-map}
 use Rattle.std.proofs.Math.Seq.{set-get_or}
 use borrow.Author.Tests.{lt-leb}
@@ -10,6 +10,8 @@ use Rattle.words.specs.Refusal.{first_refusal}
 use Rattle.words.specs.Pair.{head_number}
 use Rattle.words.proofs.Order.{unless_is, unless_not, first_none, row_is, row_end}
 use Rattle.rules.specs.declared.Head.{Head}
+use Rattle.rules.specs.declared.Phase.{Phase}
+use Rattle.rules.specs.declared.Phase.TheVariants.{Init, Listen, Coldstart, Active}
 use Rattle.rules.specs.declared.Calendar.{Calendar}
 use Rattle.rules.specs.declared.State.{State}
 use Rattle.rules.specs.declared.Table.{Table}
@@ -20,11 +22,11 @@ use Rattle.rules.specs.State.{no_head, head_of, put, phase_of, state_fits}
 use Rattle.rules.specs.Step.{timer_due, due, least_timeout, next_instant, timer_head, timer_frame, sends, hear_head, advance, timer, hear, moved}
 use Rattle.rules.specs.Judge.{name_refusal, due_refusal, last_refusal, step_refusal, state_after}
 use Rattle.rules.proofs.Filled.{Filled, filled_all}
-use Rattle.rules.proofs.Each.{less_or_not, either_or_not, is_between}
+use Rattle.rules.proofs.Each.{less_or_not, either_or_not, is_between, no_both}
 use Rattle.rules.proofs.Meaning.{head_is, table_meets, state_meets}
 use Rattle.rules.proofs.Checks.{head_at}
 use Rattle.rules.proofs.Moves.{due_is_now}
-use Rattle.steps.specs.Parts.{place, timeouts, least, instant, clock_after, calendar_after, head_after, advance_refusal, timer_refusal, hear_refusal, part_refusal}
+use Rattle.steps.specs.Parts.{place, heeds, timeouts, least, instant, clock_after, calendar_after, head_after, advance_refusal, timer_refusal, hear_refusal, part_refusal}
 use Rattle.steps.specs.Ready.{Sender, Ready}
 
 -- ---- places
@@ -182,6 +184,13 @@ module _ (t : Table) (s : State) (f : table_fits t ≡ true) (g : state_fits t s
       → record { clock = later; n = s.n; calendar = c; heads = set s.heads at h } ≡ moved t s x
   whole = moved_at t s f g at later x (q ∙ ap place p) (rw r at b)
 
+hear_still : (t : Table) (clock i : ℕ) (c : Calendar) (h : Head) (p : Phase) → heeds p ≡ false → hear_head t clock i c h p ≡ h
+unfolding hear_head heeds
+hear_still t clock i c h Init w = refl
+hear_still t clock i c h Listen w = no_both w
+hear_still t clock i c h Coldstart w = no_both w
+hear_still t clock i c h (Active k) w = refl
+
 -- ---- a step on a state that is kept in place, with its timeouts beside it: what the code comes to is the step, and it is accepted
 
 pub record Goes (t : Table) (s : State) (x : Step) (u : State) (es : List ℕ) : Type 0 where
@@ -227,6 +236,17 @@ module _ (t : Table) (s : State) (f : table_fits t ≡ true) (g : state_fits t s
           moves = rw p (m ∙ moved_at t s f g at s.clock (Hear i) a refl y c d h q);
           beside = rw m (k ∙ rw r (timeouts_set s.heads at h));
         }
+
+    -- a head that heeds no frame stays as it is
+    pub goes_still : x ≡ Hear i → hear_refusal t s.clock s.calendar i ≡ 0
+        → (c : Calendar) → c ≡ left s.calendar i
+        → heeds (get_or s.heads at no_head).phase ≡ false
+        → u ≡ record { clock = s.clock; n = s.n; calendar = c; heads = s.heads } → e ≡ es → Goes t s x u e
+    goes_still p z c d w m k =
+        let h = get_or s.heads at no_head in
+        goes_hear p z c d h (sym (hear_still t s.clock i s.calendar h h.phase w))
+        (m ∙ ap (λ (hs : List Head). record { clock = s.clock; n = s.n; calendar = c; heads = hs }) (sym (set-get_or s.heads at no_head)))
+        (k ∙ sym (ap (set es at) (sym (timeout_at s.heads at) ∙ ap (λ (y : List ℕ). get_or y at 0) (sym r)) ∙ set-get_or es at 0))
 
 -- what each kind is refused with, and who may send once it is not
 module _ (t : Table) (s : State) (f : table_fits t ≡ true) (g : state_fits t s ≡ true) (x : Step) where
