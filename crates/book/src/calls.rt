@@ -29,7 +29,8 @@ impl Book {
     {
         let c = self.remembered[head as usize - 1];
         if let Some(p) = find(&self.places, c.number) {
-            self.places[p].tails = self.places[p].tails.saturating_add(1);
+            let tails = self.places[p].tails.saturating_add(1);
+            self.places[p].tails = tails.min(Book::MOST_TAILS);
         }
         self.latest = clock;
         self

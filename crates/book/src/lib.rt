@@ -11,7 +11,7 @@ mod places;
 use rules::State;
 
 // A held crossing: its number, its tick, whose it is (a head, or what a post goes by), and how many tails were filed in it. A free place
-// is all zero.
+// is all zero: no Option, for a record may hold any fields, and number 0 beside others breaks a rule (25).
 #[derive(Clone, Copy, PartialEq, Eq, Debug)]
 pub struct Entry {
     pub number: u32,
@@ -20,7 +20,7 @@ pub struct Entry {
     pub tails: u16,
 }
 
-// A head's last entered crossing, released or not. Number 0 remembers none.
+// A head's last entered crossing, released or not. Number 0 remembers none, whatever the tick beside it.
 #[derive(Clone, Copy, PartialEq, Eq, Debug)]
 pub struct Crossing {
     pub number: u32,
