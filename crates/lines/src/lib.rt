@@ -40,7 +40,8 @@ pub fn put_step(room: &mut [u8], at: usize, s: State, x: Step) -> Option<usize>
     Some(need)
 }
 
-// The last line, put and answered in the same way. The refusal is its number, any byte or 0 for none, as the line has it.
+// The last line, put and answered in the same way. The refusal is its number, any byte or 0 for none, as the line has it
+// (`put_end_one` speaks of them all).
 pub fn put_end(room: &mut [u8], at: usize, accepted: u32, refusal: u8) -> Option<usize>
     ensures { (result ≡ written (length room.old) at (end_line accepted refusal)) × (room.new ≡ room_after room.old at (end_line accepted refusal)) × (length (end_line accepted refusal) ≤ longest_line) }
 {

@@ -26,7 +26,8 @@ pub fn number(image: &[u8], at: usize, width: usize) -> u64
         .fold(0, |x, byte| x << 8 | u64::from(*byte))
 }
 
-// The same at a width, as a number of that width: one generic function would take a trait with four impls, for `as` is not generic.
+// The same at each width of an image's fields, as a number of that width. One generic function takes a trait, for `as` is not generic; tried,
+// it came to twice the lines, and each call named the type in place of the width.
 pub fn bits8(image: &[u8], at: usize) -> u8
     requires { at + 1 ≤ length image.now }
     ensures { result ≡ number_at image.now at 1 }

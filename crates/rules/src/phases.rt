@@ -17,7 +17,7 @@ impl Phase {
         }
     }
 
-    // The slot of an active head, 0 in any other phase.
+    // The slot of an active head, 0 in any other phase, as an image and a line have it.
     pub fn slot(self) -> u8
         ensures { result ≡ slot_number self }
     {

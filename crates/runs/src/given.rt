@@ -17,7 +17,7 @@ pub fn run_given(t: Table, s: State, pairs: &[u8]) -> Ran
     }
 }
 
-// The same on a table and a state that fit.
+// The same on a table and a state that fit. What is left is asked after, for an odd byte is no step, so the pairs are taken one by one.
 pub fn run_given_fit(fit: Fit, pairs: &[u8]) -> Ran
     ensures { told result ≡ run_from fit.table fit.state 0 pairs.now }
 {

@@ -13,7 +13,7 @@ use steps::{instant, timeouts};
 use words::{Refusal, Step};
 
 // Steps in bytes, gathered before any is written to the room: the first used bytes hold them. Sixty-four heads have at most two steps
-// each, of two bytes.
+// each, of two bytes. There is no heap, so it is no Vec.
 #[derive(Clone, Copy)]
 struct Pairs {
     bytes: [u8; Pairs::MOST],

@@ -25,8 +25,8 @@ pub fn run_policy_fit(fit: Fit, count: usize) -> Ran
     policy_from(fit, count.min(Ran::LONGEST))
 }
 
-// What the search finds is due, so it is taken without another test; only an advance can be refused, by the ceiling. A step leaves nothing due at heads below the one that
-// moved, so the next search starts there.
+// What the search finds is due, so it is taken without another test; only an advance can be refused, by the ceiling. A step leaves nothing due
+// at heads below the one that moved, so the next search starts there.
 fn policy_from(fit: Fit, count: usize) -> Ran
     ensures { told result ≡ policy_from fit.table fit.state 0 count }
 {

@@ -192,7 +192,7 @@ fn take_head(image: &[u8], at: usize) -> Option<Head>
     })
 }
 
-// The phase of a number and a slot, which only an active head has.
+// The phase of a number and a slot, which only an active head has. `TryFrom` of two bytes would not say which is which.
 #[tactic(auto, unfolding(crate::specs::StateImage::phase_from, crate::specs::StateImage::phase_known))]
 fn phase_from(number: u8, slot: u8) -> Option<Phase>
     ensures { Known result (phase_known number slot) (phase_from number slot) }

@@ -9,7 +9,7 @@ ghost use Rattle.steps.specs.Ready.{Sender};
 use rules::{Calendar, Head, Phase, Table};
 use words::{Refusal, Verdict};
 
-// How long a listener waits that hears a coldstart frame.
+// How long a listener waits that hears a coldstart frame: a name of its own, for P2 changes it alone.
 #[tactic(auto, unfolding(rules::specs::Step::listener_wait))]
 fn listener_wait(t: Table, i: u8) -> u32
     requires { 1 ≤ i }
@@ -46,7 +46,7 @@ pub fn hear_head(t: Table, clock: u32, i: u8, c: Calendar, h: Head) -> Head
     }
 }
 
-// Whether a head in a phase heeds a frame that it hears: in any other phase it stays as it is.
+// Whether a head in a phase heeds a frame that it hears: in any other phase it stays as it is (`goes_still`, proofs/Parts).
 #[tactic(auto, unfolding(crate::specs::Parts::heeds))]
 pub fn heeds(p: Phase) -> bool
     ensures { result ≡ heeds p }

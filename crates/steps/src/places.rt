@@ -5,7 +5,7 @@ ghost use Rattle.steps.specs.Parts.{place, timeouts};
 
 use rules::State;
 
-// Where the head that a step names stands; the first place where it names none.
+// Where the head that a step names stands; the first place where it names none. No Option: who asks has a step that is tested elsewhere.
 #[tactic(auto, unfolding(crate::specs::Parts::place))]
 pub fn place(i: u8) -> usize
     ensures { result ≡ place i }

@@ -38,7 +38,7 @@ pub fn timer_head(t: Table, clock: u32, i: u8, p: Phase) -> Head
     }
 }
 
-// The kind of frame that head i's timer sends, if any.
+// The kind of frame that head i's timer sends, if any: a number, as a calendar has it.
 #[tactic(auto, unfolding(rules::specs::Step::timer_frame, crate::specs::Parts::frame_of))]
 pub fn timer_frame(t: Table, i: u8, p: Phase) -> Option<u8>
     ensures { result ≡ frame_of (timer_frame t i p) }

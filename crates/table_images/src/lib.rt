@@ -30,8 +30,8 @@ pub const FRONT: usize = 10;
 
 pub const WAKE: usize = 4;
 
-// Writes a table's image into the room: refused with 3 or 12, or the number of bytes. A state's writer has this shape too; to share it
-// would take two closures over the room.
+// Writes a table's image into the room: refused with 3 or 12, or the number of bytes. A state's writer has this shape too; a shared
+// one takes a trait of both records, of which each has two functions that say what they leave of the room alone, for these few lines.
 pub fn write(t: Table, room: &mut [u8]) -> Result<usize, Refusal>
     ensures { Wrote result (table_refusal t) (table_image t) room.old room.new }
 {

@@ -3,7 +3,7 @@ ghost use Rattle.std.specs.Prelude.{◌<◌};
 
 use std::num::TryFromIntError;
 
-// The byte of a line at a place, 0 past its end.
+// The byte of a line at a place, 0 past its end: 0 is no try's letter, so a `None` would only say the same in each match.
 pub fn letter(line: &[u8], at: usize) -> u8 {
     line.get(at).copied().unwrap_or(0)
 }

@@ -10,7 +10,7 @@ const BEFORE_WAKES: usize = 3;
 // The numbers before a state line's heads: N, clock and the calendar's five.
 const BEFORE_HEADS: usize = 7;
 
-// The wake that a table line names for a place: the first one where it names too few, and none above N.
+// The wake that a table line names for a place: the first one where it names too few, or 0, and none above N.
 fn wake(line: &[u8], k: usize) -> u32
     requires { k < 64 }
 {

@@ -51,7 +51,8 @@ impl Bench {
         answered(judge::pair(self.table, self.state, kind, i), known, word);
     }
 
-    // The first bytes of the table's or the state's image, with up to two bytes changed. Where there is no image, they are zero.
+    // The first bytes of the table's or the state's image, with up to two bytes changed. Where there is no image, they are zero. What is read or
+    // written is the sheet's own letter, judged in one place each.
     pub fn read(&self, line: &[u8]) {
         let what = letter(line, 5);
         let mut image = [0u8; ROOM];

@@ -16,7 +16,8 @@ use pieces::fill;
 use rules::{State, Table};
 use words::Verdict;
 
-// The two channels, by their numbers: std's reader does not say how many bytes it read, so `io` stays.
+// The two channels, by their numbers, for `io`: with std's `Read` a loop of our own would fill the buffer (`read_to_end` takes a Vec, and here
+// is no heap), and its writer assumes one C function more.
 const STDIN: i32 = 0;
 
 const STDOUT: i32 = 1;

@@ -27,7 +27,7 @@ pub fn start(input: &[u8]) -> Place<'_>
     }
 }
 
-// The table that an image is read as, and the verdict on it.
+// The table that an image is read as, and the verdict on it: both stand in a place, for a refused table's place is one at which END is left.
 fn read(image: &[u8]) -> (Table, Verdict)
     ensures table { result.0 ≡ read_table image.now }
     ensures verdict { verdict_number result.1 ≡ read_table_refusal image.now }
