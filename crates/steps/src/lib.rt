@@ -1,9 +1,9 @@
 // The steps themselves, on a table and a state that are known to fit: what each kind makes of the clock, of the calendar and of the
 // head that it names, and a proposed step attempted on a whole state. Nothing here looks at the record rules again, so a run can
 // check its table and state once and then step, and the parts let it do so in place. What is asked for a head that sends or hears
-// is one record, `Sender`; table, clock and head stay parameters, for a struct of them would be made for a single call at each place that
-// makes one, and the docs name these functions. The match over a step's kinds stands in each function that makes something of a step. It
-// uses words, hearers and rules; judge puts the record checks in front of it for everybody else.
+// is one record, `Sender`; table, clock and head stay parameters, for a struct of them would be made for one call or two at each of
+// the four places that have them, and taken apart in each of the five. Each function that makes something of a step matches its kinds.
+// It uses words, hearers and rules; judge puts the record checks in front of it for everybody else.
 #![tactic(auto)]
 
 ghost use Rattle.std.specs.Prelude.{◌≡◌, ◌≤◌};
