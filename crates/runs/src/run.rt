@@ -12,7 +12,7 @@ ghost use Rattle.runs.specs.Open.{open_to, first_due};
 
 use crate::search::first_due;
 use rules::{Fit, State, Table};
-use steps::{advancing, hearing, instant, place, sending, timeouts, timing};
+use steps::{Mover, advancing, hearing, instant, place, sending, timeouts, timing};
 use words::{Step, Verdict};
 
 #[derive(Clone, Copy)]
@@ -116,13 +116,16 @@ impl Run {
         requires { step_refusal self.old.table self.old.state (Step.Timer i) ≡ 0 }
         ensures { Stepped (Step.Timer i) self.old self.new (Ok tt) }
     {
-        let t = self.table;
-        let clock = self.state.clock;
         let at = place(i);
         let head = self.state.heads[at];
-        let frame = timing::timer_frame(t, i, head.phase);
-        self.state.calendar = sending::sends(t, clock, frame, i, self.state.calendar);
-        let moved = timing::timer_head(t, clock, i, head.phase);
+        let frame = timing::timer_frame(self.table, i, head.phase);
+        let mover = Mover {
+            table: &self.table,
+            clock: self.state.clock,
+            head: i,
+        };
+        self.state.calendar = mover.sends(frame, self.state.calendar);
+        let moved = mover.timer_head(head.phase);
         self.state.heads[at] = moved;
         self.due[at] = moved.timeout;
     }
@@ -133,12 +136,15 @@ impl Run {
         requires { step_refusal self.old.table self.old.state (Step.Hear i) ≡ 0 }
         ensures { Stepped (Step.Hear i) self.old self.new (Ok tt) }
     {
-        let t = self.table;
-        let clock = self.state.clock;
         let frame = self.state.calendar;
         let at = place(i);
         let head = self.state.heads[at];
-        let moved = hearing::hear_head(t, clock, i, frame, head);
+        let mover = Mover {
+            table: &self.table,
+            clock: self.state.clock,
+            head: i,
+        };
+        let moved = mover.hear_head(frame, head);
         self.state.calendar = sending::left(frame, i);
         self.state.heads[at] = moved;
         self.due[at] = moved.timeout;

@@ -1,11 +1,11 @@
 // A head hears the frame in the calendar.
 ghost use Rattle.std.specs.Prelude.{◌≡◌, ◌≤◌};
 ghost use Rattle.words.specs.Refusal.{verdict_number};
-ghost use Rattle.rules.specs.Limits.{max_heads, longest_slot, ceiling};
+ghost use Rattle.rules.specs.Limits.{max_heads};
 ghost use Rattle.rules.specs.Step.{listener_wait, joined, hear_head};
 ghost use Rattle.steps.specs.Parts.{heeds, hear_refusal};
-ghost use Rattle.steps.specs.Ready.{Sender};
 
+use crate::Mover;
 use rules::{Calendar, Head, Phase, Table};
 use words::{Refusal, Verdict};
 
@@ -18,31 +18,31 @@ fn listener_wait(t: Table, i: u8) -> u32
     t.coldstart_wait(i)
 }
 
-// A head that joins: the sender's slot, which began one propagation ago.
-#[tactic(auto, unfolding(rules::specs::Step::joined))]
-fn joined(t: Table, clock: u32, c: Calendar) -> Head
-    requires { (t.p ≤ t.s) × (t.s ≤ longest_slot) × (clock ≤ ceiling) }
-    ensures { result ≡ joined t clock c }
-{
-    Head {
-        phase: Phase::Active(c.origin),
-        timeout: clock + t.s as u32 - t.p as u32,
+impl Mover<'_> {
+    // A head that joins: the sender's slot, which began one propagation ago.
+    #[tactic(auto, unfolding(rules::specs::Step::joined))]
+    fn joined(&self, c: Calendar) -> Head
+        ensures { result ≡ joined self.now.table.now self.now.clock c }
+    {
+        Head {
+            phase: Phase::Active(c.origin),
+            timeout: self.clock + self.table.s as u32 - self.table.p as u32,
+        }
     }
-}
 
-// Head i after it has heard the frame, by its phase before.
-#[tactic(auto, unfolding(rules::specs::Step::hear_head))]
-pub fn hear_head(t: Table, clock: u32, i: u8, c: Calendar, h: Head) -> Head
-    requires { Sender t clock i }
-    ensures { result ≡ hear_head t clock i c h h.phase }
-{
-    match h.phase {
-        Phase::Listen if c.kind == Calendar::COLDSTART_FRAME => Head {
-            phase: Phase::Coldstart,
-            timeout: clock + listener_wait(t, i),
-        },
-        Phase::Listen | Phase::Coldstart => joined(t, clock, c),
-        Phase::Init | Phase::Active(_) => h,
+    // The head after it has heard the frame, by its phase before.
+    #[tactic(auto, unfolding(rules::specs::Step::hear_head))]
+    pub fn hear_head(&self, c: Calendar, h: Head) -> Head
+        ensures { result ≡ hear_head self.now.table.now self.now.clock self.now.head c h h.phase }
+    {
+        match h.phase {
+            Phase::Listen if c.kind == Calendar::COLDSTART_FRAME => Head {
+                phase: Phase::Coldstart,
+                timeout: self.clock + listener_wait(*self.table, self.head),
+            },
+            Phase::Listen | Phase::Coldstart => self.joined(c),
+            Phase::Init | Phase::Active(_) => h,
+        }
     }
 }
 

@@ -1,9 +1,7 @@
 // The steps themselves, on a table and a state that are known to fit: what each kind makes of the clock, of the calendar and of the
 // head that it names, and a proposed step attempted on a whole state. Nothing here looks at the record rules again, so a run can
-// check its table and state once and then step, and the parts let it do so in place. What is asked for a head that sends or hears
-// is one record, `Sender`; table, clock and head stay parameters, for a struct of them would be made for one call or two at each of
-// the four places that have them, and taken apart in each of the five. Each function that makes something of a step matches its kinds.
-// It uses words, hearers and rules; judge puts the record checks in front of it for everybody else.
+// check its table and state once and then step, and the parts let it do so in place. Each function that makes something of a step
+// matches its kinds. It uses words, hearers and rules; judge puts the record checks in front of it for everybody else.
 #![tactic(auto)]
 
 ghost use Rattle.std.specs.Prelude.{◌≡◌, ◌≤◌};
@@ -19,11 +17,13 @@ use words::{Answer, Step, Verdict};
 
 pub mod advancing;
 pub mod hearing;
+mod movers;
 mod places;
 pub mod sending;
 pub mod timing;
 
 pub use advancing::instant;
+pub use movers::Mover;
 pub use places::{place, timeouts};
 
 // A proposed step on a table and a state that fit: the next state, or the refusal (7 to 11, 13) and the state as it was given.
@@ -68,7 +68,15 @@ fn calendar_after(t: Table, clock: u32, c: Calendar, h: Head, x: Step) -> Calend
 {
     match x {
         Step::Advance => c,
-        Step::Timer(i) => sending::sends(t, clock, timing::timer_frame(t, i, h.phase), i, c),
+        Step::Timer(i) => {
+            let frame = timing::timer_frame(t, i, h.phase);
+            Mover {
+                table: &t,
+                clock,
+                head: i,
+            }
+            .sends(frame, c)
+        }
         Step::Hear(i) => sending::left(c, i),
     }
 }
@@ -81,7 +89,17 @@ fn head_after(t: Table, clock: u32, c: Calendar, h: Head, x: Step) -> Head
 {
     match x {
         Step::Advance => h,
-        Step::Timer(i) => timing::timer_head(t, clock, i, h.phase),
-        Step::Hear(i) => hearing::hear_head(t, clock, i, c, h),
+        Step::Timer(i) => Mover {
+            table: &t,
+            clock,
+            head: i,
+        }
+        .timer_head(h.phase),
+        Step::Hear(i) => Mover {
+            table: &t,
+            clock,
+            head: i,
+        }
+        .hear_head(c, h),
     }
 }

@@ -3,9 +3,9 @@ ghost use Rattle.std.specs.Prelude.{◌≡◌, ◌≤◌};
 ghost use Rattle.rules.specs.Limits.{max_heads};
 ghost use Rattle.rules.specs.Calendar.{settled, left, taken, send};
 ghost use Rattle.steps.specs.Parts.{sent};
-ghost use Rattle.steps.specs.Ready.{Sender};
 
-use rules::{Calendar, Table};
+use crate::Mover;
+use rules::Calendar;
 
 // Nothing of a frame is kept once nobody waits for it.
 #[tactic(auto, unfolding(rules::specs::Calendar::settled, rules::specs::Calendar::quiet))]
@@ -27,42 +27,41 @@ pub fn left(c: Calendar, i: u8) -> Calendar
     })
 }
 
-// The calendar takes the frame: all heads but i wait for it.
-#[tactic(auto, unfolding(rules::specs::Calendar::taken))]
-fn taken(t: Table, clock: u32, kind: u8, i: u8) -> Calendar
-    requires { Sender t clock i }
-    ensures { result ≡ taken t clock kind i }
-{
-    settled(Calendar {
-        hearers: hearers::all_but(t.n, i),
-        kind,
-        origin: i,
-        sent: clock,
-        delivery: clock + t.p as u32,
-    })
-}
-
-// Send by i at the clock: dropped where hearers wait, and i no longer hears; otherwise taken.
-#[tactic(auto, unfolding(rules::specs::Calendar::send, rules::specs::Calendar::quiet))]
-pub fn send(t: Table, clock: u32, kind: u8, i: u8, c: Calendar) -> Calendar
-    requires { Sender t clock i }
-    ensures { result ≡ send t clock kind i c }
-{
-    if c.hearers != 0 {
-        left(c, i)
-    } else {
-        taken(t, clock, kind, i)
+impl Mover<'_> {
+    // The calendar takes the frame: all heads but this one wait for it.
+    #[tactic(auto, unfolding(rules::specs::Calendar::taken))]
+    fn taken(&self, kind: u8) -> Calendar
+        ensures { result ≡ taken self.now.table.now self.now.clock kind self.now.head }
+    {
+        settled(Calendar {
+            hearers: hearers::all_but(self.table.n, self.head),
+            kind,
+            origin: self.head,
+            sent: self.clock,
+            delivery: self.clock + self.table.p as u32,
+        })
     }
-}
 
-// The calendar after a frame of a kind is sent, or as it was where there is none.
-#[tactic(auto, unfolding(crate::specs::Parts::sent))]
-pub fn sends(t: Table, clock: u32, kind: Option<u8>, i: u8, c: Calendar) -> Calendar
-    requires { Sender t clock i }
-    ensures { result ≡ sent t clock kind i c }
-{
-    match kind {
-        Some(kind) => send(t, clock, kind, i, c),
-        None => c,
+    // A frame is sent: dropped where hearers wait, and this head no longer hears; otherwise taken.
+    #[tactic(auto, unfolding(rules::specs::Calendar::send, rules::specs::Calendar::quiet))]
+    pub fn send(&self, kind: u8, c: Calendar) -> Calendar
+        ensures { result ≡ send self.now.table.now self.now.clock kind self.now.head c }
+    {
+        if c.hearers != 0 {
+            left(c, self.head)
+        } else {
+            self.taken(kind)
+        }
+    }
+
+    // The calendar after a frame of a kind is sent, or as it was where there is none.
+    #[tactic(auto, unfolding(crate::specs::Parts::sent))]
+    pub fn sends(&self, kind: Option<u8>, c: Calendar) -> Calendar
+        ensures { result ≡ sent self.now.table.now self.now.clock kind self.now.head c }
+    {
+        match kind {
+            Some(kind) => self.send(kind, c),
+            None => c,
+        }
     }
 }

@@ -3,8 +3,8 @@ ghost use Rattle.std.specs.Prelude.{◌≡◌};
 ghost use Rattle.words.specs.Refusal.{verdict_number};
 ghost use Rattle.rules.specs.Step.{slot_after, timer_head, timer_frame};
 ghost use Rattle.steps.specs.Parts.{frame_of, timer_refusal};
-ghost use Rattle.steps.specs.Ready.{Sender};
 
+use crate::Mover;
 use rules::{Calendar, Head, Phase, Table};
 use words::{Refusal, Verdict};
 
@@ -16,25 +16,27 @@ fn slot_after(t: Table, k: u8) -> u8
     if k < t.n { k + 1 } else { 1 }
 }
 
-// Head i after its timer, by its phase before.
-#[tactic(auto, unfolding(rules::specs::Step::timer_head))]
-pub fn timer_head(t: Table, clock: u32, i: u8, p: Phase) -> Head
-    requires { Sender t clock i }
-    ensures { result ≡ timer_head t clock i p }
-{
-    match p {
-        Phase::Init => Head {
-            phase: Phase::Listen,
-            timeout: clock + t.listen_wait(i),
-        },
-        Phase::Listen | Phase::Coldstart => Head {
-            phase: Phase::Coldstart,
-            timeout: clock + t.coldstart_wait(i),
-        },
-        Phase::Active(k) => Head {
-            phase: Phase::Active(slot_after(t, k)),
-            timeout: clock + t.s as u32,
-        },
+impl Mover<'_> {
+    // The head after its timer, by its phase before.
+    #[tactic(auto, unfolding(rules::specs::Step::timer_head))]
+    pub fn timer_head(&self, p: Phase) -> Head
+        ensures { result ≡ timer_head self.now.table.now self.now.clock self.now.head p }
+    {
+        let t = self.table;
+        match p {
+            Phase::Init => Head {
+                phase: Phase::Listen,
+                timeout: self.clock + t.listen_wait(self.head),
+            },
+            Phase::Listen | Phase::Coldstart => Head {
+                phase: Phase::Coldstart,
+                timeout: self.clock + t.coldstart_wait(self.head),
+            },
+            Phase::Active(k) => Head {
+                phase: Phase::Active(slot_after(*t, k)),
+                timeout: self.clock + t.s as u32,
+            },
+        }
     }
 }
 

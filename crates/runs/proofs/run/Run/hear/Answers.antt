@@ -4,8 +4,8 @@ use Rattle.steps.proofs.Parts.{same_hear, hear_sender}
 use Rattle.runs.proofs.Stepping.{goes_on, heard, keeps_fit}
 use Rattle.runs.proofs.run.Run.hear.Goals as goal
 
-pub hear_head-moved-requires : goal.hear_head-moved-requires
-hear_head-moved-requires c = let r = c.args.self.now in hear_sender r.table r.state r.table_fits r.state_fits (Hear c.args.i) _ refl c.requires
+pub invariant_of-mover : goal.invariant_of-mover
+invariant_of-mover c = let r = c.args.self.now in record { ready = hear_sender r.table r.state r.table_fits r.state_fits (Hear c.args.i) _ refl c.requires }
 
 pub left-self-requires : goal.left-self-requires
 left-self-requires c =

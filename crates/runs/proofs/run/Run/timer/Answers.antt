@@ -4,11 +4,8 @@ use Rattle.steps.proofs.Parts.{same_timer, timer_sender}
 use Rattle.runs.proofs.Stepping.{goes_on, timed, keeps_fit}
 use Rattle.runs.proofs.run.Run.timer.Goals as goal
 
-pub sends-self-requires : goal.sends-self-requires
-sends-self-requires c = let r = c.args.self.now in timer_sender r.table r.state r.table_fits r.state_fits (Timer c.args.i) _ refl c.requires
-
-pub timer_head-moved-requires : goal.timer_head-moved-requires
-timer_head-moved-requires c = let r = c.args.self.now in timer_sender r.table r.state r.table_fits r.state_fits (Timer c.args.i) _ refl c.requires
+pub invariant_of-mover : goal.invariant_of-mover
+invariant_of-mover c = let r = c.args.self.now in record { ready = timer_sender r.table r.state r.table_fits r.state_fits (Timer c.args.i) _ refl c.requires }
 
 pub invariant_of-self : goal.invariant_of-self
 invariant_of-self c =

@@ -1,9 +1,0 @@
-use Rattle.std.proofs.Common.{arith}
-use Rattle.rules.proofs.Waits.{listen_le, coldstart_le}
-use Rattle.steps.proofs.timing.timer_head.Goals as goal
-
-pub overflow_add-result : goal.overflow_add-result
-overflow_add-result c = let a = c.args in let k = c.requires in omega (arith, listen_le a.t a.i (omega arith) (omega arith) (omega arith), c.listen_wait.ensures)
-
-pub overflow_add-result-in-Listen : goal.overflow_add-result-in-Listen
-overflow_add-result-in-Listen c = let a = c.args in let k = c.requires in omega (arith, coldstart_le a.t a.i (omega arith) (omega arith) (omega arith), c.coldstart_wait.ensures)
