@@ -11,7 +11,8 @@ use rules::{Phase, State, Table};
 use words::{Refusal, Verdict};
 
 impl Book {
-    // A break of head i at the state's clock: not before the last break (16), and of an active head (17).
+    // A break of head i at the state's clock: not before the last break (16), and of an active head (17). N alone is asked, for a `Fit`
+    // would ask more.
     #[tactic(auto, unfolding(crate::specs::Breaks::admit_refusal, crate::specs::Breaks::clock_refusal, crate::specs::Breaks::head_refusal, words::specs::Refusal::first_refusal, words::specs::Refusal::unless))]
     pub fn admits(self, t: Table, s: State, i: u8) -> Verdict
         requires { t.n ≤ max_heads }

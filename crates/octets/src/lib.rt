@@ -15,7 +15,7 @@ const VERSION_AT: usize = 3;
 
 pub const COUNT_AT: usize = 5;
 
-// The number that the bytes from a place on make.
+// The number that the bytes from a place on make. A field is a width and a number, so the width is a variable (docs/DECISIONS.md).
 pub fn number(image: &[u8], at: usize, width: usize) -> u64
     requires { (width ≤ 8) × (at + width ≤ length image.now) }
     ensures { (result ≡ number_at image.now at width) × (result < 256 ^ width) }

@@ -73,7 +73,7 @@ impl State {
         }
     }
 
-    // Whether the state rules hold, against a table that is known to fit.
+    // Whether the state rules hold, against a table that is known to fit: a fact about this one argument, as its callers have it.
     #[tactic(auto, unfolding(crate::specs::State::state_fits, crate::specs::State::front_fits), using(crate::proofs::Known::state_places))]
     pub fn fits(self, t: Table) -> bool
         requires { table_fits t ≡ true }

@@ -74,7 +74,7 @@ impl Table {
         2 * self.round() + self.offset(i)
     }
 
-    // How long head i waits in coldstart.
+    // How long head i waits in coldstart. 01 gives the two waits apart, and so do the docs.
     pub fn coldstart_wait(self, i: u8) -> u32
         requires { 1 ≤ i }
         ensures { result ≡ coldstart_wait self i }

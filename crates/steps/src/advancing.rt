@@ -7,7 +7,7 @@ ghost use Rattle.steps.specs.Parts.{least, instant, clock_after, advance_refusal
 use rules::{Calendar, State};
 use words::{Refusal, Step, Verdict};
 
-// The least of the first n timeouts.
+// The least of the first n timeouts. They, N and the calendar stay apart, as a run has them.
 fn least(timeouts: &[u32; State::MAX_HEADS], n: u8) -> u32
     requires { (1 ≤ n) × (n ≤ max_heads) }
     ensures { result ≡ least timeouts.now n }

@@ -26,7 +26,8 @@ pub use advancing::instant;
 pub use movers::Mover;
 pub use places::{place, timeouts};
 
-// A proposed step on a table and a state that fit: the next state, or the refusal (7 to 11, 13) and the state as it was given.
+// A proposed step on a table and a state that fit: the next state, or the refusal (7 to 11, 13) and the state as it was given. The state is
+// copied once; a run copies none, so it has a step of its own over the same parts (runs/src/run.rt).
 pub fn attempt(fit: Fit, x: Step) -> Answer<State>
     ensures { Answers result (step_refusal fit.table fit.state x) (state_after fit.table fit.state x (step_refusal fit.table fit.state x)) }
 {

@@ -50,7 +50,8 @@ struct Bench {
 }
 
 impl Bench {
-    // What came of a line. Some kinds of line set the table, the state or the book.
+    // What came of a line. Some kinds of line set the table, the state or the book. Here and below a `match` over a letter of the line says
+    // what is tried, as README's table has it.
     fn tried(&mut self, line: &[u8]) {
         match letter(line, 0) {
             b't' => self.lay(records::table(line)),

@@ -7,7 +7,8 @@ ghost use Rattle.walk.specs.Pieces.{Stands, rest, left, Onward};
 use crate::{Piece, Place};
 use words::{Refusal, Step, Verdict, verdict_number};
 
-// Fills the room with the lines from a place on, as many as it takes whole: the END line, or a step's line at least.
+// Fills the room with the lines from a place on, as many as it takes whole: the END line, or a step's line at least. The pairs are taken one by
+// one, for a place keeps what follows, and a byte left over is no step (7).
 pub fn fill<'a>(room: &mut [u8], from: Place<'a>) -> Piece<'a>
     requires { (longest_line ≤ length room.old) × Stands from }
     ensures { (result.bytes ≤ length room.new) × (take result.bytes room.new ++ left result.next ≡ rest from.entry) × Onward from.entry result.next }
