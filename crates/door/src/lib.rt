@@ -6,7 +6,7 @@
 ghost use Rattle.std.specs.Prelude.{◌≡◌, ◌≤◌, true, IfOk};
 ghost use Rattle.words.specs.Refusal.{verdict_number};
 ghost use Rattle.rules.specs.Limits.{max_heads};
-ghost use Rattle.rules.specs.Room.{Wrote, bytes_of};
+ghost use Rattle.rules.specs.Room.{Wrote, bytes_told};
 ghost use Rattle.rules.specs.State.{fresh, state_fits};
 ghost use Rattle.rules.specs.Table.{table_fits};
 ghost use Rattle.table_images.specs.TableImage.{read_table_refusal, read_table};
@@ -124,7 +124,7 @@ fn stored(ran: Ran, room: &mut [u8]) -> Result<usize, Refusal>
 
 // A writer's answer: it counts the bytes written.
 fn wrote(w: Result<usize, Refusal>) -> u64
-    ensures { result ≡ answer (verdict_number w) (bytes_of w) }
+    ensures { result ≡ answer (verdict_number w) (bytes_told w) }
 {
     answer(w, w.unwrap_or(0))
 }

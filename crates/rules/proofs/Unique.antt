@@ -11,7 +11,7 @@ use Rattle.rules.specs.declared.State.{State}
 use Rattle.rules.specs.declared.fit.Fit.{Fit}
 use Rattle.rules.specs.Table.{table_fits}
 use Rattle.rules.specs.State.{state_fits}
-use Rattle.rules.specs.Room.{bytes_of}
+use Rattle.rules.specs.Room.{bytes_told}
 use Rattle.rules.proofs.Table.check.Reads as table-check
 use Rattle.rules.proofs.Table.check.Kinds as table-check-kinds
 use Rattle.rules.proofs.Table.is_head.Reads as table-is_head
@@ -34,7 +34,7 @@ use Rattle.rules.proofs.Phase.slot.Reads as phase-slot
 use Rattle.rules.proofs.Phase.slot.Kinds as phase-slot-kinds
 
 -- a number and a count of bytes make one answer of a writer
-pub written_one : (r q : Result ℕ Refusal) → verdict_number r ≡ verdict_number q → bytes_of r ≡ bytes_of q → r ≡ q
+pub written_one : (r q : Result ℕ Refusal) → verdict_number r ≡ verdict_number q → bytes_told r ≡ bytes_told q → r ≡ q
 written_one (Ok a) (Ok b) e f = ap Ok f
 written_one (Ok a) (Err y) e f = absurd (omega (arith, number_some y))
 written_one (Err x) (Ok b) e f = absurd (omega (arith, number_some x))

@@ -16,14 +16,14 @@ bytes_written refusal image = cond (eqb refusal 0) (length image) 0
 unfoldable pub room_after : ℕ → List ℕ → List ℕ → List ℕ
 room_after refusal image room = cond (eqb refusal 0) (image ++ drop (length image) room) room
 
--- how many bytes a writer answers that it wrote
-abbrev pub bytes_of : Result ℕ Refusal → ℕ
-bytes_of (Ok bytes) = bytes
-bytes_of (Err why) = 0
+-- how many bytes a writer's answer tells: none where it refuses
+abbrev pub bytes_told : Result ℕ Refusal → ℕ
+bytes_told (Ok bytes) = bytes
+bytes_told (Err why) = 0
 
 -- a writer's answer and its room after, by the refusal of what it is given, its image and its room before
 abbrev pub Wrote : Result ℕ Refusal → ℕ → List ℕ → List ℕ → List ℕ → Type 0
 Wrote w unfit image before after =
     (verdict_number w ≡ write_refusal unfit image before)
-    × (bytes_of w ≡ bytes_written (write_refusal unfit image before) image)
+    × (bytes_told w ≡ bytes_written (write_refusal unfit image before) image)
     × (after ≡ room_after (write_refusal unfit image before) image before)

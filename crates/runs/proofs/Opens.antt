@@ -21,7 +21,7 @@ use Rattle.rules.proofs.Moves.{next_least, due_is, is_due}
 use Rattle.exact.proofs.Enabled.{next_low, enabled_is, is_enabled, accepted_exactly}
 use Rattle.runs.specs.Claims.{ListedExactly, Before, InOrder, order_none, order_first, ListedInOrder, EachOnce, once_none, once_first, ListedOnce, SearchFirst}
 use Rattle.rules.specs.Calendar.{hear_due}
-use Rattle.runs.specs.Stepped.{head_refusal}
+use Rattle.runs.specs.Stepped.{moving_refusal}
 use Rattle.runs.specs.Open.{only_if, open_at, open_to, open_steps, first_or, first_due}
 
 -- ---- one head
@@ -225,16 +225,16 @@ module _ (t : Table) (s : State) (f : TableMeets t) (m : StateMeets t s) where
       go (x ∷ rest) q = absurd (n (rw q (open_accepted t s f m x (subst (Memᴰ x) (sym (open_due t s f m x rest q ∙ q)) (Memᴰ.head refl)))))
 
 -- what is found is not refused, but where it is an advance
-free : (t : Table) (s : State) (x : Step) → step_refusal t s x ≡ 0 → head_refusal t s x ≡ 0
+free : (t : Table) (s : State) (x : Step) → step_refusal t s x ≡ 0 → moving_refusal t s x ≡ 0
 free t s Advance e = refl
 free t s (Timer i) e = e
 free t s (Hear i) e = e
 
-pub first_free : (t : Table) (s : State) → table_fits t ≡ true → state_fits t s ≡ true → (x : Step) → x ≡ first_due s t.n → head_refusal t s x ≡ 0
+pub first_free : (t : Table) (s : State) → table_fits t ≡ true → state_fits t s ≡ true → (x : Step) → x ≡ first_due s t.n → moving_refusal t s x ≡ 0
 unfolding first_due first_or
 first_free t s p q x e = rw e (go (open_to s t.n) refl)
   where
-    go : (l : List Step) → open_to s t.n ≡ l → head_refusal t s (first_or Advance (open_to s t.n)) ≡ 0
+    go : (l : List Step) → open_to s t.n ≡ l → moving_refusal t s (first_or Advance (open_to s t.n)) ≡ 0
     go [] z = rw z refl
     go (y ∷ rest) z =
         let f = table_meets t p in

@@ -17,7 +17,7 @@ use Rattle.steps.specs.Parts.{place, frame_of, sent, instant, advance_refusal, t
 use Rattle.steps.proofs.Laws.{sent_frame}
 use Rattle.steps.proofs.Parts.{Goes, goes_advance, goes_timer, goes_hear}
 use Rattle.runs.specs.declared.run.Run.{Run}
-use Rattle.runs.specs.Stepped.{head_refusal, Stepped}
+use Rattle.runs.specs.Stepped.{moving_refusal, Stepped}
 use Rattle.runs.proofs.Laws.{still_fits}
 
 pub stays : (r : Run) (x : Step) (v w : Result (Unit {0}) Refusal) (y : Refusal) → v ≡ Err y → w ≡ Err y → verdict_number v ≡ step_refusal r.table r.state x → Stepped x r r w
@@ -28,7 +28,7 @@ stays r x v w y a b n = record {
   state = rw (ne_eqb (step_refusal r.table r.state x) 0 (refused_some v _ y n a));
 }
 
-pub head_stays : (r : Run) (x : Step) (v w : Result (Unit {0}) Refusal) (y : Refusal) → v ≡ Err y → w ≡ Err y → verdict_number v ≡ head_refusal r.table r.state x → Stepped x r r w
+pub head_stays : (r : Run) (x : Step) (v w : Result (Unit {0}) Refusal) (y : Refusal) → v ≡ Err y → w ≡ Err y → verdict_number v ≡ moving_refusal r.table r.state x → Stepped x r r w
 head_stays r Advance v w y a b n = absurd (refused_some v _ y n a refl)
 head_stays r (Timer i) v w y a b n = stays r (Timer i) v w y a b n
 head_stays r (Hear i) v w y a b n = stays r (Hear i) v w y a b n

@@ -9,11 +9,11 @@ use Rattle.rules.specs.declared.Table.{Table}
 use Rattle.rules.specs.Judge.{step_refusal, state_after}
 use Rattle.runs.specs.declared.run.Run.{Run}
 
--- what refuses a timer or a hearing
-abbrev pub head_refusal : Table → State → Step → ℕ
-head_refusal t s Advance = 0
-head_refusal t s (Timer i) = step_refusal t s (Timer i)
-head_refusal t s (Hear i) = step_refusal t s (Hear i)
+-- what refuses a step that moves a head, a timer or a hearing
+abbrev pub moving_refusal : Table → State → Step → ℕ
+moving_refusal t s Advance = 0
+moving_refusal t s (Timer i) = step_refusal t s (Timer i)
+moving_refusal t s (Hear i) = step_refusal t s (Hear i)
 
 -- its verdict, and the table and the state after it: "a refused step returns the given state"
 pub record Stepped (x : Step) (before after : Run) (verdict : Result (Unit {0}) Refusal) : Type 0 where

@@ -26,7 +26,7 @@ pub struct Run {
 }
 
 impl Run {
-    ghost use Rattle.runs.specs.Stepped.{head_refusal, Stepped};
+    ghost use Rattle.runs.specs.Stepped.{moving_refusal, Stepped};
 
     pub fn on(fit: Fit) -> Run
         ensures table { result.table ≡ fit.table }
@@ -59,15 +59,15 @@ impl Run {
     pub fn step(&mut self, x: Step) -> Verdict
         ensures { Stepped x self.old self.new result }
     {
-        self.head_verdict(x)?;
+        self.moving_verdict(x)?;
         self.take(x)
     }
 
     // What refuses a timer or a hearing.
     #[inline(always)]
     #[tactic(auto, using(steps::proofs::Parts::place_below))]
-    fn head_verdict(&self, x: Step) -> Verdict
-        ensures { verdict_number result ≡ head_refusal self.now.table self.now.state x }
+    fn moving_verdict(&self, x: Step) -> Verdict
+        ensures { verdict_number result ≡ moving_refusal self.now.table self.now.state x }
     {
         match x {
             Step::Advance => Ok(()),
@@ -84,7 +84,7 @@ impl Run {
     // The same of a timer or a hearing that nothing refuses, as the search finds them; an advance is tested as it is made.
     #[inline(always)]
     pub fn take(&mut self, x: Step) -> Verdict
-        requires { head_refusal self.old.table self.old.state x ≡ 0 }
+        requires { moving_refusal self.old.table self.old.state x ≡ 0 }
         ensures { Stepped x self.old self.new result }
     {
         match x {

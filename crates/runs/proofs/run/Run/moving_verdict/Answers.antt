@@ -2,7 +2,7 @@ use Rattle.std.proofs.Common.{refl, ◌∙◌}
 use Rattle.words.specs.declared.Step.TheVariants.{Timer, Hear}
 use Rattle.rules.proofs.Meaning.{table_meets}
 use Rattle.steps.proofs.Parts.{same_timer, same_hear}
-use Rattle.runs.proofs.run.Run.head_verdict.Goals as goal
+use Rattle.runs.proofs.run.Run.moving_verdict.Goals as goal
 
 pub verdict-requires-in-Hear : goal.verdict-requires-in-Hear
 verdict-requires-in-Hear c = let m = table_meets _ c.args.self.now.table_fits in m.heads
