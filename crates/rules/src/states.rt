@@ -46,17 +46,22 @@ impl State {
         }
     }
 
-    // The same of a table that is known to fit.
+    // The same of a table that is known to fit. A loop fills the heads: with the array's `map`, which moves each several times over, a fresh
+    // state took twice as long.
     #[tactic(auto, unfolding(crate::specs::State::fresh))]
     pub fn fresh_fit(t: Table) -> State
         ensures { result ≡ fresh t }
     {
-        State {
-            n: t.n,
-            heads: t.wakes.map(|wake| Head {
+        let mut heads = [Head::ZERO; State::MAX_HEADS];
+        for (k, &wake) in t.wakes.iter().enumerate() {
+            heads[k] = Head {
                 phase: Phase::Init,
                 timeout: wake,
-            }),
+            };
+        }
+        State {
+            n: t.n,
+            heads,
             ..State::blank()
         }
     }
