@@ -1,5 +1,5 @@
 -- One more step of a run under way: refused, it leaves all as it was; accepted, it goes on to the next state.
-use Rattle.std.proofs.Common.{◌≡◌, refl, sym, ap, ◌∙◌, ℕ, true, Result, Ok, Err, get_or, set}
+use Rattle.std.proofs.Common.{◌≡◌, refl, sym, ap, ◌∙◌, ℕ, true, false, Result, Ok, Err, get_or, set}
 use Rattle.std.proofs.Common.{ne_eqb}
 use Rattle.words.specs.declared.Step.{Step}
 use Rattle.words.specs.declared.Step.TheVariants.{Advance, Timer, Hear}
@@ -13,9 +13,9 @@ use Rattle.rules.specs.Calendar.{left}
 use Rattle.rules.specs.State.{no_head, state_fits}
 use Rattle.rules.specs.Step.{timer_frame, timer_head, hear_head, moved}
 use Rattle.rules.specs.Judge.{step_refusal, state_after}
-use Rattle.steps.specs.Parts.{place, frame_of, sent, instant, advance_refusal, timer_refusal, hear_refusal}
+use Rattle.steps.specs.Parts.{place, frame_of, sent, heeds, instant, advance_refusal, timer_refusal, hear_refusal}
 use Rattle.steps.proofs.Laws.{sent_frame}
-use Rattle.steps.proofs.Parts.{Goes, goes_advance, goes_timer, goes_hear}
+use Rattle.steps.proofs.Parts.{Goes, goes_advance, goes_timer, goes_hear, goes_still}
 use Rattle.runs.specs.declared.run.Run.{Run}
 use Rattle.runs.specs.Stepped.{moving_refusal, Stepped}
 use Rattle.runs.proofs.Laws.{still_fits}
@@ -61,6 +61,10 @@ module _ (r : Run) where
     pub heard : hear_refusal r.table r.state.clock r.state.calendar i ≡ 0 → (c : Calendar) → c ≡ left r.state.calendar i
         → (h : Head) → h ≡ hear_head r.table r.state.clock i r.state.calendar head head.phase → Goes r.table r.state (Hear i) (stored c h) (set r.due at h.timeout)
     heard z c q h e = goes_hear r.table r.state r.table_fits r.state_fits r.due r.beside (Hear i) _ _ at i a refl z c q h e refl refl
+
+    pub unheeded : hear_refusal r.table r.state.clock r.state.calendar i ≡ 0 → (c : Calendar) → c ≡ left r.state.calendar i
+        → heeds head.phase ≡ false → Goes r.table r.state (Hear i) record { clock = r.state.clock; n = r.state.n; calendar = c; heads = r.state.heads } r.due
+    unheeded z c q w = goes_still r.table r.state r.table_fits r.state_fits r.due r.beside (Hear i) _ _ at i a refl z c q w refl refl
 
 -- and it keeps what a run says of itself
 pub keeps_fit : (r : Run) (x : Step) (u : State) (es : _) → Goes r.table r.state x u es → state_fits r.table u ≡ true

@@ -1,5 +1,7 @@
 // A run by the fixed policy: the first step of the step list, again and again.
 ghost use Rattle.std.specs.Prelude.{◌≡◌, min};
+ghost use Rattle.words.specs.Pair.{head_number};
+ghost use Rattle.steps.specs.Parts.{place};
 ghost use Rattle.runs.specs.Run.{told};
 ghost use Rattle.runs.specs.Chosen.{longest_run, policy_from, policy};
 
@@ -7,6 +9,7 @@ use crate::run::Run;
 use crate::{Ran, stopped};
 use rules::{Fit, State, Table};
 use steps::place;
+use words::Step;
 
 // Plays up to count steps, a count above the longest run taken as the longest. It stops early, with nothing refused, where no step is open.
 pub fn run_policy(t: Table, s: State, count: usize) -> Ran
@@ -37,7 +40,18 @@ fn policy_from(fit: Fit, count: usize) -> Ran
         let Ok(()) = run.take(x) else {
             return stopped(run.state, taken, Ok(()));
         };
-        from = place(x.head());
+        from = from_after(x);
     }
     stopped(run.state, count, Ok(()))
+}
+
+// Where the next search starts: at the head that moved; after an advance at the first.
+#[tactic(auto, unfolding(steps::specs::Parts::place))]
+fn from_after(x: Step) -> usize
+    ensures { result ≡ place (head_number x) }
+{
+    match x {
+        Step::Advance => 0,
+        Step::Timer(i) | Step::Hear(i) => place(i),
+    }
 }

@@ -118,16 +118,17 @@ impl Run {
     {
         let at = place(i);
         let head = self.state.heads[at];
-        let frame = timing::timer_frame(self.table, i, head.phase);
         let mover = Mover {
             table: &self.table,
             clock: self.state.clock,
             head: i,
         };
-        self.state.calendar = mover.sends(frame, self.state.calendar);
         let moved = mover.timer_head(head.phase);
         self.state.heads[at] = moved;
         self.due[at] = moved.timeout;
+        if let Some(kind) = timing::timer_frame(self.table, i, head.phase) {
+            self.state.calendar = mover.send(kind, self.state.calendar);
+        }
     }
 
     #[inline(always)]
@@ -139,14 +140,16 @@ impl Run {
         let frame = self.state.calendar;
         let at = place(i);
         let head = self.state.heads[at];
-        let mover = Mover {
-            table: &self.table,
-            clock: self.state.clock,
-            head: i,
-        };
-        let moved = mover.hear_head(frame, head);
-        self.state.calendar = sending::left(frame, i);
-        self.state.heads[at] = moved;
-        self.due[at] = moved.timeout;
+        sending::leave(&mut self.state.calendar, i);
+        if hearing::heeds(head.phase) {
+            let mover = Mover {
+                table: &self.table,
+                clock: self.state.clock,
+                head: i,
+            };
+            let moved = mover.hear_head(frame, head);
+            self.state.heads[at] = moved;
+            self.due[at] = moved.timeout;
+        }
     }
 }

@@ -11,7 +11,7 @@ pub fn place(i: u8) -> usize
     ensures { result ≡ place i }
 {
     if 1 <= i && i as usize <= State::MAX_HEADS {
-        i as usize - 1
+        (i - 1) as usize
     } else {
         0
     }

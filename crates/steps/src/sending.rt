@@ -27,6 +27,18 @@ pub fn left(c: Calendar, i: u8) -> Calendar
     })
 }
 
+// The same in place, for a run: while others still wait, one number is written and not the whole calendar.
+#[tactic(auto, unfolding(rules::specs::Calendar::left, rules::specs::Calendar::settled, rules::specs::Calendar::quiet))]
+pub fn leave(c: &mut Calendar, i: u8)
+    requires { (1 ≤ i) × (i ≤ max_heads) }
+    ensures { c.new ≡ left c.old i }
+{
+    c.hearers = hearers::without(c.hearers, i);
+    if c.hearers == 0 {
+        *c = Calendar::empty();
+    }
+}
+
 impl Mover<'_> {
     // The calendar takes the frame: all heads but this one wait for it.
     #[tactic(auto, unfolding(rules::specs::Calendar::taken))]
