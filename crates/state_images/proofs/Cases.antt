@@ -2,6 +2,7 @@
 use Rattle.std.proofs.Common.{◌≡◌, refl, sym, ap, ◌∙◌, true, List, ℕ, suc, ◌≤◌, ◌<◌, arith, length, get_or, take, length-append, eq-eqb}
 use Rattle.std.proofs.lemmas.List.{get_or-take}
 use Rattle.words.specs.declared.Refusal.{Refusal}
+use Rattle.words.specs.declared.Refusal.TheVariants.{TableRange}
 use Rattle.words.specs.Refusal.{number_of, unless, first_refusal}
 use Rattle.words.proofs.Order.{number_some, first_some, first_none, first_last}
 use Rattle.rules.specs.declared.Head.{Head}
@@ -13,7 +14,7 @@ use Rattle.rules.specs.Table.{table_fits, table_refusal}
 use Rattle.rules.specs.State.{no_head, head_of, state_refusal}
 use Rattle.rules.specs.Judge.{record_refusal}
 use Rattle.rules.proofs.Meaning.{table_meets, state_meets}
-use Rattle.rules.proofs.Checks.{table_accepted, accepted_record}
+use Rattle.rules.proofs.Checks.{table_accepted, accepted_record, refused_table}
 use Rattle.octets.specs.Bytes.{bytes_of}
 use Rattle.octets.specs.Room.{stored}
 use Rattle.octets.specs.Fields.{in_bytes, joined, is_marked, count_in}
@@ -26,10 +27,18 @@ pub take_known : (n : ℕ) (l : List ℕ) → length l ≡ state_length n → is
 unfolding take_refusal first_refusal unless
 take_known n l long m h e = rw (eq-eqb _ _ long, m, eq-eqb _ _ h, e)
 
+table_number : (t : Table) (why : Refusal) → number_of why ≡ table_refusal t → number_of TableRange ≡ table_refusal t
+unfolding table_refusal unless
+table_number t why e = let n = refused_table t (λ z. omega (arith, number_some why)) in rw n refl
+
 module _ (t : Table) (l : List ℕ) where
   pub read_no_table : (why : Refusal) → number_of why ≡ table_refusal t → number_of why ≡ read_state_refusal t l
   unfolding read_state_refusal
   read_no_table why e = e ∙ sym (first_some (table_refusal t) _ (λ z. omega (arith, number_some why)))
+
+  -- and it is the table's own number, whatever refused it
+  pub read_unfit : (why : Refusal) → number_of why ≡ table_refusal t → number_of TableRange ≡ read_state_refusal t l
+  read_unfit why e = read_no_table TableRange (table_number t why e)
 
   module _ (fit : table_fits t ≡ true) where
     pub read_untaken : (why : Refusal) → number_of why ≡ take_refusal t.n l → number_of why ≡ read_state_refusal t l

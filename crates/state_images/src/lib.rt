@@ -109,7 +109,7 @@ pub fn read(t: Table, image: &[u8]) -> Answer<State>
 {
     match t.check() {
         Ok(()) => read_fit(t, image),
-        Err(why) => Err(why.with(State::blank())),
+        Err(_) => Err(Refusal::TableRange.with(State::blank())),
     }
 }
 
