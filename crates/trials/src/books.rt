@@ -25,9 +25,9 @@ impl Bench {
     pub fn next_book(&self, line: &[u8]) -> Book {
         let b = self.book;
         match letter(line, 5) {
-            b'n' => answered(Book::new(number(line, 0)), BLANK, b" blank"),
+            b'n' => answered(Book::new(number(line, 0)), &BLANK, b" blank"),
             b'b' => self.broken(line),
-            b'r' => answered(b.release(number(line, 0)), b, b" kept"),
+            b'r' => answered(b.release(number(line, 0)), &b, b" kept"),
             _ => forged(b, line),
         }
     }
@@ -35,7 +35,7 @@ impl Bench {
     // Breaks of a head, and where they are accepted its last crossing.
     fn broken(&self, line: &[u8]) -> Book {
         let came = self.breaks(line);
-        let after = answered(came, self.book, b" kept");
+        let after = answered(came, &self.book, b" kept");
         if came.is_ok() {
             pages::crossing(&after, place(line, State::MAX_HEADS));
         }

@@ -16,12 +16,29 @@ fn joined(x: u64, digit: u8) -> u64 {
     }
 }
 
-// The number of a line that so many others stand before, if it has so many.
+// The number of a line that so many others stand before, if it has so many. It steps from number to number: to split a whole line for each
+// takes half as long again on the lines of a state.
 pub fn find(line: &[u8], before: usize) -> Option<u64> {
-    line.split(|b| !b.is_ascii_digit())
-        .filter(|digits| !digits.is_empty())
-        .nth(before)
-        .map(|digits| digits.iter().fold(0, |x, &b| joined(x, b)))
+    let mut rest = first(line)?;
+    for _ in 0..before {
+        rest = first(behind(rest))?;
+    }
+    let number = rest.iter().take_while(|b| b.is_ascii_digit());
+    Some(number.fold(0, |x, &b| joined(x, b)))
+}
+
+// What begins with the first digit.
+fn first(line: &[u8]) -> Option<&[u8]> {
+    let at = line.iter().position(|b| b.is_ascii_digit())?;
+    Some(&line[at..])
+}
+
+// What follows the digits that a line begins with.
+fn behind(line: &[u8]) -> &[u8] {
+    match line.iter().position(|b| !b.is_ascii_digit()) {
+        Some(at) => &line[at..],
+        None => &[],
+    }
 }
 
 // The widths of a record's numbers.

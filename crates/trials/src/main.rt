@@ -60,7 +60,7 @@ impl Bench {
                 self.state = records::state(line);
                 answer(self.state.check(self.table));
             }
-            b'f' => self.state = answered(State::fresh(self.table), State::blank(), b" blank"),
+            b'f' => self.state = answered(State::fresh(self.table), &State::blank(), b" blank"),
             b'b' => self.book = self.next_book(line),
             b'c' => self.calendar(line),
             b'h' => self.head(line),

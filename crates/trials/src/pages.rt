@@ -6,7 +6,7 @@ use book::{Book, Entry};
 
 // The last number given, the last break and how many places are held.
 impl Told for Book {
-    fn tell(self) {
+    fn tell(&self) {
         field(b" given", self.given as u64);
         field(b" last", self.latest as u64);
         let held = self.places.iter().filter(|e| e.number != 0).count();

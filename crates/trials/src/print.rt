@@ -26,11 +26,11 @@ pub fn answer(v: Verdict) {
 
 // A record that can be told in numbers.
 pub trait Told: PartialEq + Copy {
-    fn tell(self);
+    fn tell(&self);
 }
 
 // A record that came, or a word for it where it is a known one: the given one, the all-zero one, or the one of the same step.
-pub fn record<T: Told>(came: T, known: T, word: &[u8]) {
+pub fn record<T: Told>(came: &T, known: &T, word: &[u8]) {
     if came == known {
         text(word);
     } else {
@@ -38,20 +38,25 @@ pub fn record<T: Told>(came: T, known: T, word: &[u8]) {
     }
 }
 
-// What a call answered: the number, then the record, which is handed on.
-pub fn answered<T: Told>(came: Answer<T>, known: T, word: &[u8]) -> T {
-    let (verdict, x) = match came {
-        Ok(x) => (Ok(()), x),
-        Err(Refused { why, back }) => (Err(why), back),
-    };
-    answer(verdict);
-    record(x, known, word);
-    x
+// What a call answered: the number, then the record, which is handed on. A record may be a whole book, so it is told where it lies.
+pub fn answered<T: Told>(came: Answer<T>, known: &T, word: &[u8]) -> T {
+    match came {
+        Ok(x) => {
+            answer(Ok(()));
+            record(&x, known, word);
+            x
+        }
+        Err(Refused { why, back }) => {
+            answer(Err(why));
+            record(&back, known, word);
+            back
+        }
+    }
 }
 
 // A table that was read, with its first two wakes.
 impl Told for Table {
-    fn tell(self) {
+    fn tell(&self) {
         field(b" N", self.n as u64);
         field(b" S", self.s as u64);
         field(b" P", self.p as u64);
@@ -61,7 +66,7 @@ impl Told for Table {
 }
 
 impl Told for State {
-    fn tell(self) {
+    fn tell(&self) {
         field(b" clock", self.clock as u64);
         calendar(self.calendar);
         heads(self.n as usize, &self.heads);

@@ -33,7 +33,7 @@ impl Bench {
     // A step as the enum and as its two bytes, or two bytes that name no step.
     pub fn judge(&self, line: &[u8]) {
         match letter(line, 6) {
-            b'p' => self.pair(number(line, 0), number(line, 1), self.state, b" kept"),
+            b'p' => self.pair(number(line, 0), number(line, 1), &self.state, b" kept"),
             b'a' => self.step(Step::Advance),
             b't' => self.step(Step::Timer(number(line, 0))),
             _ => self.step(Step::Hear(number(line, 0))),
@@ -42,12 +42,16 @@ impl Bench {
 
     // A step, then the same as its two bytes, beside the state that the step came to.
     fn step(&self, x: Step) {
-        let came = answered(judge::step(self.table, self.state, x), self.state, b" kept");
+        let came = answered(
+            judge::step(self.table, self.state, x),
+            &self.state,
+            b" kept",
+        );
         text(b", pair");
-        self.pair(x.kind(), x.head(), came, b" alike");
+        self.pair(x.kind(), x.head(), &came, b" alike");
     }
 
-    fn pair(&self, kind: u8, i: u8, known: State, word: &[u8]) {
+    fn pair(&self, kind: u8, i: u8, known: &State, word: &[u8]) {
         answered(judge::pair(self.table, self.state, kind, i), known, word);
     }
 
@@ -66,11 +70,11 @@ impl Bench {
 
     fn read_first(&self, what: u8, first: &[u8]) {
         if what == b't' {
-            answered(table_images::read(first), Table::BLANK, b" blank");
+            answered(table_images::read(first), &Table::BLANK, b" blank");
         } else {
             answered(
                 state_images::read(self.table, first),
-                State::blank(),
+                &State::blank(),
                 b" blank",
             );
         }
@@ -95,10 +99,13 @@ impl Bench {
 
     // A run of the steps that a line gives: its numbers, up to the first that is no byte.
     pub fn given(&self, line: &[u8]) {
-        let pairs: [u8; MOST_BYTES] = std::array::from_fn(|k| number(line, k));
         let n = (0..MOST_BYTES)
             .take_while(|&k| matches!(find(line, k), Some(0..=255)))
             .count();
+        let mut pairs = [0; MOST_BYTES];
+        for (k, byte) in pairs[..n].iter_mut().enumerate() {
+            *byte = number(line, k);
+        }
         self.ran(runs::run_given(self.table, self.state, &pairs[..n]));
     }
 
@@ -111,7 +118,7 @@ impl Bench {
     fn ran(&self, r: Ran) {
         answer(r.verdict);
         field(b" accepted", r.accepted as u64);
-        record(r.state, self.state, b" kept");
+        record(&r.state, &self.state, b" kept");
     }
 }
 
