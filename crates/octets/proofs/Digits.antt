@@ -1,9 +1,8 @@
 -- Numbers in bytes, at every width: what one turn of the code's two loops does.
-use Rattle.std.proofs.Common.{◌≡◌, refl, List, [], ◌∷◌, ℕ, zero, suc, ◌+◌, ◌-◌, ◌*◌, ◌/◌, ◌%◌, ◌^◌, ◌≤◌, ◌<◌, ◌++◌, length, get_or, take, drop, set, reverse, fold, bit_or, drop-cons, arith, lt_of_lt_of_le, add-one}
+use Rattle.std.proofs.Common.{◌≡◌, refl, List, [], ◌∷◌, ℕ, zero, suc, ◌+◌, ◌-◌, ◌*◌, ◌/◌, ◌%◌, ◌^◌, ◌≤◌, ◌<◌, ◌++◌, length, get_or, take, drop, set, reverse, fold, drop-cons, arith, lt_of_lt_of_le, add-one}
 use Rattle.std.proofs.lemmas.List.Edits.{sets-eq}
 use Rattle.std.proofs.lemmas.Grind.{common_steps, reverse_onto}
 use Rattle.std.proofs.lemmas.List.Sums.{fold-append}
-use Rattle.std.proofs.lemmas.Nat.{or_shifted, shl_whole}
 use Rattle.std.proofs.Math.Nat.{pow-le-pow_right}
 use Rattle.octets.specs.Bytes.{bytes_of, number_at, Bytes}
 use Rattle.octets.specs.Room.{stored}
@@ -19,13 +18,14 @@ number_small l bytes k (suc width) = omega (arith, bytes k, number_small l bytes
 
 -- a byte put behind the number of those read
 abbrev behind : ℕ → ℕ → ℕ
-behind x b = bit_or (x * 2 ^ 8 % 2 ^ 64) b
+behind x b = (x * 256 % 2 ^ 64 + b) % 2 ^ 64
 
 -- a number of at most seven bytes leaves room for one more
 behind_seven : (x b width : ℕ) → width < 8 → x < 256 ^ width → b < 256 → behind x b ≡ b + 256 * x
 behind_seven x b width h e f =
     let seven : x < 256 ^ 7 = lt_of_lt_of_le e (pow-le-pow_right {n = 256} (omega arith) {i = width} {j = 7} (omega arith)) in
-    rw (shl_whole x 56 8 64 seven (omega arith), or_shifted x 8 b f) (omega arith)
+    let whole : x * 256 % 2 ^ 64 ≡ x * 256 = omega (arith, seven) in
+    rw whole (omega (arith, seven, f))
 
 pub number_folded : (l : List ℕ) → Bytes l → (k width : ℕ) → k + width ≤ length l → width ≤ 8 → fold behind 0 (reverse (take width (drop k l))) ≡ number_at l k width
 unfolding number_at

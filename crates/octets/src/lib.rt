@@ -23,7 +23,7 @@ pub fn number(image: &[u8], at: usize, width: usize) -> u64
     image[at..at + width]
         .iter()
         .rev()
-        .fold(0, |x, byte| x << 8 | u64::from(*byte))
+        .fold(0, |x, &b| x.wrapping_mul(256).wrapping_add(b as u64))
 }
 
 // The same at each width of an image's fields, as a number of that width. One generic function takes a trait, for `as` is not generic; tried,
