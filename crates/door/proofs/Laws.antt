@@ -37,7 +37,7 @@ first_why : (why : Refusal) (x : ℕ) (rest : List ℕ) → number_of why ≡ x 
 first_why why x rest e = e ∙ sym (first_some x rest (λ z. omega (arith, number_some why)))
 
 -- a state that fits has no more heads than there are places
-few_heads : (t : Table) (s : State) → table_fits t ≡ true → state_fits t s ≡ true → s.n ≤ max_heads
+pub few_heads : (t : Table) (s : State) → table_fits t ≡ true → state_fits t s ≡ true → s.n ≤ max_heads
 few_heads t s f g = written_heads t s (sym (record_accepted t s f g))
 
 pub fresh_few : (tb : List ℕ) → 0 ≡ read_table_refusal tb → (fresh (read_table tb)).n ≤ max_heads

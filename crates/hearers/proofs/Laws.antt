@@ -1,8 +1,9 @@
 -- What the rules need to know of sets of heads. Everything above this crate cites these laws and never looks at bits.
-use Rattle.std.proofs.Common.{◌≡◌, refl, ◌∙◌, ℕ, zero, suc, ◌+◌, ◌-◌, ◌*◌, ◌/◌, ◌%◌, ◌^◌, ◌≤◌, ◌<◌, bit_and, arith, pow-suc}
+use Rattle.std.proofs.Common.{◌≡◌, refl, false, eqb, ◌∙◌, ℕ, zero, suc, ◌+◌, ◌-◌, ◌*◌, ◌/◌, ◌%◌, ◌^◌, ◌≤◌, ◌<◌, bit_and, arith, pow-suc}
 use Rattle.std.proofs.lemmas.Nat.{one_shl, and_le_l, and_comm, and-not, pow_below}
 use Rattle.std.proofs.lemmas.Nat.Bits.{shr_and_one, and_pow, ones_shr, bit_at_lowest, bit_at-suc, bit_at-zero, bit_at_ones, bit_at_above}
 use Rattle.std.proofs.Math.Decide.{ℕ_discrete}
+use borrow.Author.Tests.{eqb-false}
 use Rattle.hearers.specs.Set.{has, alone, without, everyone}
 
 -- ---- the definitions as the code reaches them, by i - 1
@@ -25,7 +26,13 @@ without_cleared h (suc k) l m n = rw and_comm (omega (arith, and-not 64 (2 ^ k) 
 pub everyone_shifted : (n : ℕ) → n ≤ 64 → 18446744073709551615 / 2 ^ (64 - n) ≡ everyone n
 everyone_shifted n h = let e : 64 - (64 - n) ≡ n = omega arith in rw e at (ones_shr 64 (64 - n) (omega arith))
 
-pub ruleset as_reached = (has_bit, alone_shifted, without_cleared, everyone_shifted)
+-- a head that is not in the set is not taken out
+pub without_out : (h i : ℕ) → eqb (has h i) 1 ≡ false → h ≡ without h i
+unfolding has without
+without_out h zero e = omega arith
+without_out h (suc k) e = let z : h / 2 ^ k % 2 ≡ 0 = (let q = eqb-false (h / 2 ^ k % 2) 1 e in omega (arith, q)) in rw z (omega arith)
+
+pub ruleset as_reached = (has_bit, alone_shifted, without_cleared, everyone_shifted, without_out)
 
 -- ---- head by head, through the halves of the number
 
@@ -39,7 +46,7 @@ unfolding has
 has_lowest h = bit_at_lowest h
 
 -- what head i stands for is in the number
-alone_le : (h i : ℕ) → has h i * alone i ≤ h
+pub alone_le : (h i : ℕ) → has h i * alone i ≤ h
 unfolding has alone
 alone_le h zero = omega arith
 alone_le h (suc k) = rw (← and_pow h k) (and_le_l h (2 ^ k))

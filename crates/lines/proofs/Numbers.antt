@@ -22,10 +22,10 @@ unfolding decimal decimal_in
 decimal_more n h = rw (le-ltb n 10 h, turns n (suc (n / 10)) (n / 10) (omega arith) (omega arith))
 
 -- how many digits
-few_long : (n : ℕ) → n ≤ 9 → length (decimal n) ≡ 1
+pub few_long : (n : ℕ) → n ≤ 9 → length (decimal n) ≡ 1
 few_long n h = rw (decimal_few n h)
 
-more_long : (n : ℕ) → 9 < n → length (decimal n) ≡ length (decimal (n / 10)) + 1
+pub more_long : (n : ℕ) → 9 < n → length (decimal n) ≡ length (decimal (n / 10)) + 1
 more_long n h = rw (decimal_more n h) (length-append (decimal (n / 10)) (digit n ∷ []))
 
 -- a number from one power of ten to below the next has one digit more than the power

@@ -1,6 +1,6 @@
 use Rattle.std.proofs.Common.{◌≡◌, sym, ap, ◌∙◌}
 use Rattle.std.proofs.lemmas.Result.{IfOk-at_ok}
-use Rattle.words.specs.Refusal.{verdict_number}
+use Rattle.words.specs.Refusal.{number_of, verdict_number}
 use Rattle.words.proofs.Order.{accepted_zero, refused_some}
 use Rattle.judge.proofs.Laws.{unfit, fit}
 use Rattle.judge.proofs.step.Goals as goal
@@ -8,7 +8,7 @@ use Rattle.judge.proofs.step.Goals as goal
 pub returns-in-Err : goal.returns-in-Err
 returns-in-Err c =
     let r = unfit _ _ _ _ c.of.ensures.number (refused_some c.of.result _ _ c.of.ensures.number c.in-Err.is) in
-    (rw c.with.ensures.why (sym (ap verdict_number c.in-Err.is) ∙ r.0), c.with.ensures.back ∙ r.1)
+    (ap number_of c.with.ensures.why ∙ (sym (ap verdict_number c.in-Err.is) ∙ r.0), c.with.ensures.back ∙ r.1)
 
 pub returns-in-Ok : goal.returns-in-Ok
 returns-in-Ok c =
