@@ -38,7 +38,7 @@ module _ (l : List ℕ) (at : ℕ) (v : List ℕ) (short : length v ≤ longest_
 -- ---- piece after piece
 
 -- the room m is l with the bytes a put from position at on, and p is the position past them
-record Put (l : List ℕ) (at : ℕ) (a m : List ℕ) (p : ℕ) : Type 0 where
+pub record Put (l : List ℕ) (at : ℕ) (a m : List ℕ) (p : ℕ) : Type 0 where
   room : m ≡ over l at a
   past : p ≡ at + length a
 

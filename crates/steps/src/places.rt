@@ -6,6 +6,7 @@ ghost use Rattle.steps.specs.Parts.{place, timeouts};
 use rules::State;
 
 // Where the head that a step names stands; the first place where it names none. No Option: who asks has a step that is tested elsewhere.
+// The 1 is taken off the byte: off a `usize` the compiler does not see that no place is below 0, and a run reads its calendar anew at each step.
 #[tactic(auto, unfolding(crate::specs::Parts::place))]
 pub fn place(i: u8) -> usize
     ensures { result ≡ place i }
