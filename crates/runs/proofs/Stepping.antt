@@ -15,7 +15,7 @@ use Rattle.rules.specs.Step.{timer_frame, timer_head, hear_head, moved}
 use Rattle.rules.specs.Judge.{step_refusal, state_after}
 use Rattle.steps.specs.Parts.{place, frame_of, sent, heeds, instant, advance_refusal, timer_refusal, hear_refusal}
 use Rattle.steps.proofs.Laws.{sent_frame}
-use Rattle.steps.proofs.Parts.{Goes, goes_advance, goes_timer, goes_hear, goes_still}
+use Rattle.steps.proofs.Parts.{Goes, goes_advance, goes_timer, goes_hear, goes_still, same_timer, same_hear}
 use Rattle.runs.specs.declared.run.Run.{Run}
 use Rattle.runs.specs.Stepped.{moving_refusal, Stepped}
 use Rattle.runs.proofs.Laws.{still_fits}
@@ -65,6 +65,24 @@ module _ (r : Run) where
     pub unheeded : hear_refusal r.table r.state.clock r.state.calendar i ≡ 0 → (c : Calendar) → c ≡ left r.state.calendar i
         → heeds head.phase ≡ false → Goes r.table r.state (Hear i) record { clock = r.state.clock; n = r.state.n; calendar = c; heads = r.state.heads } r.due
     unheeded z c q w = goes_still r.table r.state r.table_fits r.state_fits r.due r.beside (Hear i) _ _ at i a refl z c q w refl refl
+
+    -- the same of an accepted step, whatever tested it
+    pub timer_goes : step_refusal r.table r.state (Timer i) ≡ 0
+        → (frame : _) → frame ≡ frame_of (timer_frame r.table i head.phase) → (c : Calendar) → c ≡ sent r.table r.state.clock frame i r.state.calendar
+        → (h : Head) → h ≡ timer_head r.table r.state.clock i head.phase → Goes r.table r.state (Timer i) (stored c h) (set r.due at h.timeout)
+    timer_goes z = timed (same_timer r.table r.state r.table_fits r.state_fits (Timer i) at i a refl ∙ z)
+
+    module _ (z : step_refusal r.table r.state (Hear i) ≡ 0) where
+      tested : hear_refusal r.table r.state.clock r.state.calendar i ≡ 0
+      tested = same_hear r.table r.state r.table_fits r.state_fits (Hear i) i refl ∙ z
+
+      pub hear_goes : (c : Calendar) → c ≡ left r.state.calendar i
+          → (h : Head) → h ≡ hear_head r.table r.state.clock i r.state.calendar head head.phase → Goes r.table r.state (Hear i) (stored c h) (set r.due at h.timeout)
+      hear_goes = heard tested
+
+      pub hear_passes : (c : Calendar) → c ≡ left r.state.calendar i
+          → heeds head.phase ≡ false → Goes r.table r.state (Hear i) record { clock = r.state.clock; n = r.state.n; calendar = c; heads = r.state.heads } r.due
+      hear_passes = unheeded tested
 
 -- and it keeps what a run says of itself
 pub keeps_fit : (r : Run) (x : Step) (u : State) (es : _) → Goes r.table r.state x u es → state_fits r.table u ≡ true
